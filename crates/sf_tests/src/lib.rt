@@ -18,6 +18,8 @@ mod cursor;
 #[cfg(test)]
 mod curves;
 #[cfg(test)]
+mod cuts;
+#[cfg(test)]
 mod designs;
 #[cfg(test)]
 mod frontier;

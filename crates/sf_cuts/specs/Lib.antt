@@ -1,0 +1,4 @@
+pub mod Cuts
+pub mod Packed
+pub mod Parting
+pub mod Shaping
