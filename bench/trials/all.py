@@ -21,6 +21,7 @@ SCRIPTS = {
     "no_threads": 1,
     "legs": 1,
     "starts": 1,
+    "begin": 1,
     "batch": 2,
     "strong": 1,
     "faults": 1,

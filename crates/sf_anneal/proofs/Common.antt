@@ -4,7 +4,8 @@ pub use Rattle.rayon.specs.Numbers.{nat_range}
 pub use Rattle.sf_anneal.specs.Measured.{IsCost, IsFloorplan, IsMeasure, IsTraced, cost_of, whole_spans}
 pub use Rattle.sf_anneal.specs.Moves.{AreNormal, MayFollow, MayPrecede, MayStep, begun_by, flipped, flipped_from, is_operand_at, operand_place, runs, runs_from, stepped, swapped, turned}
 pub use Rattle.sf_anneal.specs.Parts.{AreBlockCurves, AreKnown, AreMoved, AreParts, AreRenewed, HaveRoom, IsAsKnown, IsBlockCurve, IsBlockPart, IsFound, IsJointPart, IsLaid, IsPart, IsReady, IsTaken, before_in, chosen_curve, curve_by, kept_in, known_curve, level, moved_curve, stretch, token_at}
-pub use Rattle.sf_anneal.specs.Starts.{IsImproved, IsNoDearer, IsOwnWalk, IsStarts, first_least, lesser, words_of}
+pub use Rattle.sf_anneal.specs.Starts.{IsImproved, IsImprovedStarts, IsNoDearer, IsOwnWalk, IsStart, IsStarts, begun_plan, first_least, lesser, words_of}
+pub use Rattle.sf_anneal.specs.declared.beginning.Beginning.{Beginning}
 pub use Rattle.sf_anneal.specs.Visits.{visit_of}
 pub use Rattle.sf_anneal.specs.Walk.{IsMoveOf, IsMoved, IsStepped, IsWalk, Visit, chain, cheaper, height, kept, slack, trials}
 unfoldable pub use Rattle.sf_anneal.specs.Walk.{Walks}

@@ -10,6 +10,7 @@ pub mod Tracing
 pub mod Walks
 pub mod Collected
 pub mod Least
+pub mod Improved
 pub mod OneWalk
 pub mod Levels
 pub mod Renewing

@@ -1,7 +1,6 @@
 -- The steps of a walk.
-use Rattle.std.proofs.Common.{◌≡◌, ℕ, suc, ◌+◌, ◌*◌, ◌/◌, ◌%◌, ◌<◌, List, arith, refl, ap, sym, subst, ◌∙◌, nat_le, nat_lt, if◌then◌else◌}
+use Rattle.std.proofs.Common.{◌≡◌, ℕ, suc, ◌+◌, ◌*◌, ◌/◌, List, arith, refl, ap, sym, subst, ◌∙◌, nat_le, nat_lt, if◌then◌else◌}
 use Rattle.std.proofs.Common.{Bool, true, false, min}
-use Rattle.std.proofs.Math.Nat.{mul-add-div}
 use native.Mathlib.Nat.{div-div-eq-div-mul}
 use Rattle.sf_anneal.proofs.Common.{Token, MAX, Stream, next_u32, Design, block_count, IsMoved, Visit, Walks, cheaper, kept, slack, IsCost}
 
@@ -53,15 +52,6 @@ cheaper-one P best next a b = by_test (nat_lt next.1 best.1)
     by_test : (x : Bool) → P (if x then next else best).0
     by_test true = b
     by_test false = a
-
--- a part of a number, computed from the quotient and the rest
-pub part-is : (c m left : ℕ) → 0 < m → c / m * left + c % m * left / m ≡ c * left / m
-part-is c m left h =
-    let parts : m * (c / m) + c % m ≡ c = omega arith in
-    sym (mul-add-div h (c / m * left) (c % m * left)) ∙ ap (λ z. z / m) (spread m (c / m) (c % m) left ∙ ap (λ z. z * left) parts)
-  where
-    spread : (m q r l : ℕ) → m * (q * l) + r * l ≡ (m * q + r) * l
-    spread m q r l = omega arith
 
 -- a sixteenth of it
 pub slack-is : (c m left : ℕ) → c * left / m / 16 ≡ c * left / (16 * m)

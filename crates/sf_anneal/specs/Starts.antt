@@ -1,4 +1,4 @@
--- The first least of several walks.
+-- The first least of several walks, and what improvements behind them come to.
 use Rattle.std.specs.Prelude.{◌≡◌, ℕ, ◌+◌, ◌%◌, ◌^◌, ◌<◌, ◌≤◌, nat_lt, List, length, fold, slice_index_or, Option, Some, None, IfSome, if◌then◌else◌}
 use Rattle.rand_core.specs.Stream.{Stream}
 use Rattle.rand_core.specs.Steps.{stream_of, steps_u32}
@@ -6,6 +6,7 @@ use Rattle.rand_pcg.specs.Lcg.{started, increment_of}
 use Rattle.rand_pcg.specs.Pcg.{multiplier_64, pcg32}
 use Rattle.sf_model.specs.declared.design.Design.{Design}
 use Rattle.sf_polish.specs.declared.expr.Expr.{Expr}
+use Rattle.sf_anneal.specs.declared.beginning.Beginning.{Beginning}
 use Rattle.sf_anneal.specs.Measured.{IsFloorplan}
 use Rattle.sf_anneal.specs.Walk.{IsWalk}
 
@@ -35,20 +36,35 @@ pub record IsStarts (design : Design) (seed count moves : ℕ) (found : Option (
   pub walks : (i : ℕ) (d : Option (Expr × ℕ)) → i < count → IsWalk design (words_of seed i) moves (slice_index_or results i d)
   pub least : found ≡ first_least results
 
--- the second is a result of no greater cost where the first is one, and none where the first is none
-pub record IsNoDearer (was found : Option (Expr × ℕ)) : Type 0 where
-  pub some : (p : Expr × ℕ) → was ≡ Some p → (q : Expr × ℕ) × (found ≡ Some q) × (q.1 ≤ p.1)
-  pub none : was ≡ None → found ≡ None
+-- the second is a result of no greater cost where the first is one
+abbrev pub IsNoDearer : Option (Expr × ℕ) → Option (Expr × ℕ) → Type 0
+IsNoDearer was found = (p : Expr × ℕ) → was ≡ Some p → (q : Expr × ℕ) × (found ≡ Some q) × (q.1 ≤ p.1)
 
--- what walk i finds, made better
-pub record IsImproved (design : Design) (seed moves i : ℕ) (found : Option (Expr × ℕ)) : Type 0 where
+-- what walk i finds, made better by so many trials
+pub record IsImproved (design : Design) (seed moves trials i : ℕ) (found : Option (Expr × ℕ)) : Type 0 where
   pub was : Option (Expr × ℕ)
   pub walk : IsWalk design (words_of seed i) moves was
-  pub no_dearer : IsNoDearer was found
   pub floorplan : IfSome found (λ pair. IsFloorplan design pair.0 pair.1)
-
--- a floorplan that costs no more than the least of what so many walks find, or none where they find none
-pub record IsImprovedStarts (design : Design) (seed count moves : ℕ) (found : Option (Expr × ℕ)) : Type 0 where
-  pub was : Option (Expr × ℕ)
-  pub starts : IsStarts design seed count moves was
   pub no_dearer : IsNoDearer was found
+  pub unimproved : trials ≡ 0 → found ≡ was
+
+-- what start i comes to: walk i, made better, where it is one of so many, and else a floorplan or none, and none without trials
+pub record IsStart (design : Design) (seed count moves trials i : ℕ) (found : Option (Expr × ℕ)) : Type 0 where
+  pub walk : i < count → IsImproved design seed moves trials i found
+  pub floorplan : IfSome found (λ pair. IsFloorplan design pair.0 pair.1)
+  pub unimproved : count ≤ i → trials ≡ 0 → found ≡ None
+
+-- the plan that was begun with
+abbrev pub begun_plan : Option Beginning → Option (Expr × ℕ)
+begun_plan None = None
+begun_plan (Some begin) = begin.plan
+
+-- a floorplan that costs no more than the least of what so many walks find, nor than the plan that was begun with, or none; without trials it is the lesser of these, and where nothing was asked for there is none
+pub record IsImprovedStarts (design : Design) (begin : Option Beginning) (seed count moves trials : ℕ) (found : Option (Expr × ℕ)) : Type 0 where
+  pub walked : Option (Expr × ℕ)
+  pub starts : IsStarts design seed count moves walked
+  pub floorplan : IfSome found (λ pair. IsFloorplan design pair.0 pair.1)
+  pub no_dearer : IsNoDearer walked found
+  pub no_dearer_begun : IsNoDearer (begun_plan begin) found
+  pub unimproved : trials ≡ 0 → found ≡ lesser walked (begun_plan begin)
+  pub none : count ≡ 0 → begin ≡ None → found ≡ None

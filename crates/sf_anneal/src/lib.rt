@@ -15,23 +15,18 @@
 //! (`IsNoDearer`).
 #![tactic(auto)]
 
-mod annealing;
-mod desk;
-mod edits;
+mod beginning;
 mod improving;
 mod keeping;
 mod laws;
-mod links;
 mod measuring;
 mod moves;
 mod parts;
 mod placing;
-mod spelling;
 mod starting;
 mod walking;
-mod wiring;
-mod words;
 
+pub use beginning::Beginning;
 pub use improving::improve;
 pub use laws::{moves_are_their_inverses, walks_are_one};
 pub use measuring::{measure, whole_spans};

@@ -1,12 +1,13 @@
 //! Several walks in threads.
 
-ghost use Rattle.std.specs.Prelude.{◌≡◌, IfOk, IfSome};
+ghost use Rattle.std.specs.Prelude.{◌≡◌, ◌≤◌, IfOk, IfSome};
 ghost use Rattle.sf_anneal.specs.Measured.{IsFloorplan};
-ghost use Rattle.sf_anneal.specs.Starts.{lesser, first_least, IsImproved, IsImprovedStarts};
-ghost use Rattle.sf_anneal.specs.Starts.{IsOwnWalk, IsStarts};
+ghost use Rattle.sf_anneal.specs.Starts.{begun_plan, first_least, IsImproved, IsImprovedStarts};
+ghost use Rattle.sf_anneal.specs.Starts.{IsOwnWalk, IsStart, IsStarts};
 
-use crate::improving::improve;
-use crate::walking::one_start;
+use crate::beginning::Beginning;
+use crate::improving::{improve, improvement, lesser};
+use crate::walking::{chain, one_start};
 use rand_pcg::Lcg64Xsh32;
 use rayon::prelude::*;
 use sf_model::Design;
@@ -28,7 +29,7 @@ fn numbered(
     one_start(alloc, design, &mut words, moves)
 }
 
-/// The same, made better by so many trials over words of its own.
+/// The same, made better by so many trials over words of its own, from the chain of all blocks on.
 fn numbered_improved(
     alloc: Global,
     design: &Design,
@@ -37,32 +38,12 @@ fn numbered_improved(
     moves: u32,
     trials: u32,
 ) -> Result<Option<(Expr, u64)>, NoMemory>
-    ensures { IfOk result (IsImproved design.now seed moves number) }
+    ensures { IfOk result (IsImproved design.now seed moves trials number) }
 {
-    match numbered(alloc, design, seed, number, moves)? {
-        Some(found) => {
-            let better = improve(
-                alloc,
-                design,
-                found,
-                seed.wrapping_add(number as u64),
-                trials,
-            )?;
-            Ok(Some(better))
-        }
-        None => Ok(None),
-    }
-}
-
-/// The second where it costs less.
-fn lesser(a: Option<(Expr, u64)>, b: Option<(Expr, u64)>) -> Option<(Expr, u64)>
-    ensures { result ≡ lesser a b }
-{
-    match (a, b) {
-        (None, b) => b,
-        (a, None) => a,
-        (Some(a), Some(b)) => Some(if b.1 < a.1 { b } else { a }),
-    }
+    let found = numbered(alloc, design, seed, number, moves)?;
+    let tokens = chain(alloc, design.block_count())?;
+    let seed = seed.wrapping_add(number as u64);
+    improve(alloc, design, &tokens, found, seed, trials)
 }
 
 /// The result of least cost, of these the first.
@@ -101,27 +82,81 @@ pub fn starts<R: Threads + Sync>(
     Ok(first_least(results?))
 }
 
-/// The same, where what each walk finds is made better by so many trials, in the walk's own thread.
+/// What the start of this number comes to: a walk, made better, where it is one of so many, and else what trials
+/// come to from the tokens on that are begun with.
+fn numbered_start(
+    alloc: Global,
+    design: &Design,
+    begin: &Option<Beginning>,
+    seed: u64,
+    count: u16,
+    moves: u32,
+    trials: u32,
+    number: usize,
+) -> Result<Option<(Expr, u64)>, NoMemory>
+    ensures { IfOk result (IsStart design.now seed count moves trials number) }
+{
+    if number < usize::from(count) {
+        return numbered_improved(alloc, design, seed, number, moves, trials);
+    }
+    match begin {
+        Some(begin) => {
+            let seed = seed.wrapping_add(number as u64);
+            improvement(alloc, design, begin.tokens.as_slice(), seed, trials)
+        }
+        None => Ok(None),
+    }
+}
+
+/// The plan that was begun with.
+fn begun_plan(begin: Option<Beginning>) -> Option<(Expr, u64)>
+    ensures { result ≡ begun_plan begin }
+{
+    match begin {
+        Some(begin) => begin.plan,
+        None => None,
+    }
+}
+
+/// How many more starts there are.
+fn begun_count(begin: &Option<Beginning>) -> usize
+    ensures few { result ≤ 1 }
+    ensures none { begin.now ≡ None → result ≡ 0 }
+{
+    match begin {
+        Some(_) => 1,
+        None => 0,
+    }
+}
+
+/// The same, where what each walk finds is made better by so many trials, in the walk's own thread. A beginning
+/// is one more start behind the walks: its plan is made better by so many trials from its tokens on, over the
+/// words of the number behind the last walk's.
 pub fn improved_starts<R: Threads + Sync>(
     rt: &R,
     alloc: Global,
     design: &Design,
+    begin: Option<Beginning>,
     seed: u64,
     count: u16,
     moves: u32,
     trials: u32,
 ) -> Result<Option<(Expr, u64)>, NoMemory>
-    ensures starts { IfOk result (IsImprovedStarts design.now seed count moves) }
+    requires { IfSome (begun_plan begin) (λ pair. IsFloorplan design.now pair.0 pair.1) }
+    ensures starts { IfOk result (IsImprovedStarts design.now begin seed count moves trials) }
     ensures floorplan { IfOk result (λ found. IfSome found (λ pair. IsFloorplan design.now pair.0 pair.1)) }
 {
-    let results: Result<Vec<Option<(Expr, u64)>>, NoMemory> = (0..usize::from(count))
+    let all = usize::from(count) + begun_count(&begin);
+    let begun = &begin;
+    let results: Result<Vec<Option<(Expr, u64)>>, NoMemory> = (0..all)
         .into_par_iter()
         .with_min_len(1)
         .map(
             |number: usize| -> Result<Option<(Expr, u64)>, NoMemory>
-                ensures { IfOk result (IsImproved design.entry.now seed moves number) }
-            { numbered_improved(alloc, design, seed, number, moves, trials) },
+                ensures { IfOk result (IsStart design.entry.now seed count moves trials number) }
+            { numbered_start(alloc, design, begun, seed, count, moves, trials, number) },
         )
         .collect(rt, alloc)?;
-    Ok(first_least(results?))
+    let least = first_least(results?);
+    Ok(lesser(least, begun_plan(begin)))
 }

@@ -13,6 +13,7 @@ use crate::keeping::Kept;
 use crate::measuring::{measure, whole_spans};
 use crate::moves::{flip_chain, run_count, swap_operands, swap_step};
 use rand_core::Rng;
+use sf_improve::part_left;
 use sf_model::{Design, MAX, Spot};
 use sf_polish::{Expr, Token};
 use std::alloc::{AllocError as NoMemory, Global};
@@ -34,7 +35,7 @@ pub struct Visit {
 }
 
 /// The chain `0 1 * 2 * ..`.
-fn chain(alloc: Global, blocks: u16) -> Result<Vec<Token>, NoMemory>
+pub fn chain(alloc: Global, blocks: u16) -> Result<Vec<Token>, NoMemory>
     requires { 1 ≤ blocks }
     ensures { IfOk result (λ tokens. tokens.items ≡ chain blocks) }
 {
@@ -68,16 +69,6 @@ fn make_move(tokens: &mut [Token], blocks: u16, kind: u32, place: u32) -> bool
         }
         _ => swap_step(tokens, place % (2 * blocks - 2)),
     }
-}
-
-/// Of a number the part that is left where so many of all trials are. No product exceeds 64 bits.
-pub fn part_left(number: u64, moves: u32, left: u32) -> u64
-    requires some { 1 ≤ moves }
-    requires few { left ≤ moves }
-    ensures { result ≡ number * left / moves }
-{
-    let (moves, left) = (u64::from(moves), u64::from(left));
-    number / moves * left + number % moves * left / moves
 }
 
 /// By how much the cost may rise where so many of all trials are left.

@@ -11,6 +11,7 @@ use Rattle.sf_known.specs.Initial.{IsInitialPlan}
 use Rattle.sf_known.specs.Known.{IsKnownBy, Knows}
 use Rattle.sf_known.proofs.Taken.{as-it-was}
 use Rattle.sf_designs.specs.Stores.{Stored}
+use Rattle.sf_program.proofs.PlainInput.{design-alone, refused-first}
 
 -- words that mean nothing
 pub meaningless : (held : Option Contents) (line : Line) (told : Told) → SaysJob line None → ((told.status ≡ Usage) × (told.text ≡ usage_line)) ⊎ LacksMemory told → LineComesTo held line told
@@ -26,9 +27,9 @@ meaningless held line told says ends = (
 -- a job whose design can't be built
 pub stopped : (held : Option Contents) (line : Line) (o : PlanOptions) (stop : Stop) → SaysJob line (Some o) → Stops stop (λ why. PlanDesign held o (Err why)) → LineComesTo held line (told_of stop)
 stopped held line o (Refused status text) says why =
-    (says.job, says.is_job, inl (λ cert v. ([], inr (plan (with_cert o cert), says.asks cert v, inr (why.0, inr (refused status text.items, why.1, refl), refl)))))
+    (says.job, says.is_job, inl (λ cert v. ([], inr (plan (with_cert o cert), says.asks cert v, inr (why.0, inr (refused status text.items, refused-first held (with_cert o cert) (refused status text.items) why.1, refl), refl)))))
 stopped held line o ReadFault says why =
-    (says.job, says.is_job, inr (inl (record { status_is = refl; silent = refl; loses = λ cert v. (plan (with_cert o cert), says.asks cert v, inr (lost, why, refl)) })))
+    (says.job, says.is_job, inr (inl (record { status_is = refl; silent = refl; loses = λ cert v. (plan (with_cert o cert), says.asks cert v, inr (lost, refused-first held (with_cert o cert) lost why, refl)) })))
 stopped held line o NoMemory says why = (says.job, says.is_job, inr (inr (refl, refl)))
 
 -- what is stored of a search has the name of its certificate, and nothing of what is printed does
@@ -56,14 +57,18 @@ known : (o : PlanOptions) (design : Design) → IsPlain o → Knows o.bounds des
 known o design p = subst (λ b. Knows b design design) (sym p.bounds) refl
 
 -- a plain search begins with no plan
-from_nothing : (o : PlanOptions) (design : Design) → IsPlain o → IsInitialPlan o.starts o.bounds design design None
+from_nothing : (o : PlanOptions) (design : Design) → IsPlain o → IsInitialPlan o.starts o.bounds design None design None
 from_nothing o design p = record {
   walked = None;
   least = None;
   walks = record {
-    was = None;
+    walked = None;
     starts = record { results = []; many = sym p.starts; walks = λ i d below. absurd (let e = p.starts in omega arith); least = refl };
-    no_dearer = record { some = λ q e. absurd (cc); none = λ e. refl };
+    floorplan = tt;
+    no_dearer = λ q e. absurd (cc);
+    no_dearer_begun = λ q e. absurd (cc);
+    unimproved = λ z. refl;
+    none = λ count begin. refl;
   };
   knows = subst (λ b. IsKnownBy b design None) (sym p.bounds) refl;
   is = refl;
@@ -84,16 +89,18 @@ built held line o job says reads nodes = λ told tells. (
           says.asks cert v,
           inl (record {
             read = design;
-            stands = reads;
+            begin = None;
+            stands = design-alone held (with_cert o cert) p.begin design reads;
             design = design;
             start = None;
             begun = record {
               known = design;
               knows = known o design p;
               routes = as-it-was o.bounds design;
-              begun = from_nothing (with_cert o cert) design (record { per_unit = p.per_unit; pl_out = p.pl_out; workers = p.workers; starts = p.starts; bounds = p.bounds });
+              begun = from_nothing (with_cert o cert) design (record { per_unit = p.per_unit; pl_out = p.pl_out; workers = p.workers; starts = p.starts; begin = p.begin; bounds = p.bounds });
             };
             answered = rw (p.bounds, p.workers, p.per_unit, p.pl_out, sym nodes) named.1;
+            no_dearer = tt;
           }),
         ),
       )),

@@ -115,7 +115,8 @@ says b nets pl w nodes c wire n iw ib = record {
   workers = refl;
   nodes = budget_said nodes n ib;
   is_long = refl;
-  starts = record { count = refl; moves = refl; seed = refl; improve = tt; asked = λ e. refl };
+  starts = record { count = refl; moves = refl; seed = refl; improve = tt; asked = λ e f. refl };
+  begin = refl;
   bounds = refl;
 }
 
@@ -168,7 +169,7 @@ no_values b nets pl w nodes c none = elim (value_or b) [
 -- the options of a job are plain
 pub plain : (b : Text) (nets pl : Option Text) (wire : ℕ) (n : Option ℕ) (r : Option PlanWords) → IfSome r (λ w. plan_seen w ≡ options_of b nets pl wire n) → IfSome (option_map plan_seen r) IsPlain
 plain b nets pl wire n None same = tt
-plain b nets pl wire n (Some w) same = subst IsPlain (sym same) (record { per_unit = refl; pl_out = refl; workers = refl; starts = refl; bounds = refl })
+plain b nets pl wire n (Some w) same = subst IsPlain (sym same) (record { per_unit = refl; pl_out = refl; workers = refl; starts = refl; begin = refl; bounds = refl })
 
 -- what was read of a job is what its words ask for
 pub asks : (job : Job) (b : Text) (nets pl : Option Text) (wire : ℕ) (n : Option ℕ) (r : Option PlanWords) → b ≡ job.blocks → nets ≡ given job.nets → pl ≡ given job.pl

@@ -80,6 +80,7 @@ pub record IsPlain (o : PlanOptions) : Type 0 where
   pub pl_out : o.pl_out ≡ None
   pub workers : o.workers ≡ 1
   pub starts : o.starts.count ≡ 0
+  pub begin : o.begin ≡ None
   pub bounds : o.bounds ≡ Standard
 
 -- the line is a job, and its words mean this

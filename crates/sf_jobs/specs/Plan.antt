@@ -23,5 +23,6 @@ options_of blocks nets pl wire nodes = record {
   nodes = nodes;
   is_long = false;
   starts = record { count = 0; moves = 1_000; seed = 0; improve = None };
+  begin = None;
   bounds = Standard;
 }

@@ -81,6 +81,7 @@ fn plan_words<'a>(names: Names<'a>, wire: u16, nodes: Option<u64>) -> Option<Pla
             seed: 0,
             improve: None,
         },
+        begin: None,
         bounds: BoundsChoice::Standard,
     })
 }

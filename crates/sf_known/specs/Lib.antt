@@ -1,3 +1,4 @@
 pub mod Known
+pub mod Packed
 pub mod Initial
 pub mod Routed

@@ -11,11 +11,13 @@
 mod choosing;
 mod knowing;
 mod laws;
+mod packing;
 mod routing;
 mod spelling;
 mod starting;
 
 pub use knowing::know_alone;
 pub use laws::designs_know_one_thing;
+pub use packing::packed_beginning;
 pub use routing::take_paths;
 pub use starting::{Begun, begin};

@@ -55,13 +55,13 @@ spots_said b (block ∷ blocks) lines = do
 abbrev pub SpotsPlaced : Design → GsrcPlaces → Result (List Spot) Refusal → Type 0
 SpotsPlaced design places r = r ≡ spots_said 0 design.blocks places.places
 
--- the spots that the placed file gives the blocks of a design
-abbrev pub SpotsRead : Option Contents → MeasureOptions → Design → Result (List Spot) Refusal → Type 0
-SpotsRead held o design = Then (PlacesRead held (codes "placed") o.design.per_unit o.placed) (SpotsPlaced design)
+-- the spots that the placed file of this name gives the blocks of a design
+abbrev pub SpotsRead : Option Contents → ℕ → List ℕ → Design → Result (List Spot) Refusal → Type 0
+SpotsRead held scale name design = Then (PlacesRead held (codes "placed") scale name) (SpotsPlaced design)
 
 -- the design, and then the spots of its blocks
 abbrev pub MeasureRead : Option Contents → MeasureOptions → Result (Design × List Spot) Refusal → Type 0
-MeasureRead held o = Then (DesignRead held o.design o.weights) (With (SpotsRead held o))
+MeasureRead held o = Then (DesignRead held o.design o.weights) (With (SpotsRead held o.design.per_unit o.placed))
 
 -- the status that goes with a verdict
 abbrev pub verdict_status : Verdict → Status

@@ -14,27 +14,29 @@ ghost use Rattle.sf_designs.specs.Outcome.{Ends};
 use crate::placed_lines::place_blocks;
 use sf_designs::{Stop, Work, read_design, read_places_file};
 use sf_io::{Shelf, Status};
+use sf_lex::Scale;
 use sf_model::{Design, Spot};
 use sf_place::{Verdict, check_spots};
 use sf_wire::{spots_cost, spots_size, wire};
 use sf_words::MeasureWords;
 use std::alloc::{AllocError as NoMemory, Global};
 
-/// Where the placed file puts the blocks of a design, by number.
-fn read_spots<S: Shelf>(
+/// Where the placed file of this name puts the blocks of a design, by number.
+pub fn read_spots<S: Shelf>(
     alloc: Global,
-    words: &MeasureWords<'_>,
     shelf: &mut S,
+    scale: Scale,
+    name: &str,
     design: &Design,
 ) -> Result<Vec<Spot>, Stop>
     ensures spots { Ends (λ v. v.items) result
-        (SpotsRead (S.seen shelf.old).holds (measure_seen words.now) design.now) }
+        (SpotsRead (S.seen shelf.old).holds scale.per_unit name.now design.now) }
     ensures one_each { IfOk result (λ v. length v.items ≡ block_count design.now) }
     ensures by_number { IfOk result (λ v. IsByNumber v.items) }
     ensures near { IfOk result (λ v. All HasNearCorner v.items) }
     ensures shelf { ReadsShelf (S.seen shelf.old) (S.seen shelf.new) result }
 {
-    let file = read_places_file(alloc, shelf, "placed", words.design.scale, words.placed)?;
+    let file = read_places_file(alloc, shelf, "placed", scale, name)?;
     place_blocks(alloc, design.blocks.as_slice(), file.places.as_slice())
 }
 
@@ -94,7 +96,7 @@ pub fn measure<S: Shelf>(
     ensures shelf { ReadsShelf (S.seen shelf.old) (S.seen shelf.new) result }
 {
     let design = read_design(alloc, shelf, &words.design, words.weights)?;
-    let spots = read_spots(alloc, words, shelf, &design)?;
+    let spots = read_spots(alloc, shelf, words.design.scale, words.placed, &design)?;
     let verdict = check_spots(&design, &spots);
     let text = verdict_text(alloc, &design, &spots, verdict)?;
     Ok(Work::printed(alloc, verdict_status(verdict), text))

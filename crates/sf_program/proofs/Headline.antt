@@ -101,7 +101,7 @@ module _ (before : Option Contents) (taken taken_then : Option (List ℕ)) (stat
   -- an answer of `plan` by a status of a search has the headline
   plan-headline : (o : PlanOptions) (stored : List Stored) (printed : List ℕ) → CommandAnswer (plan o) before status stored printed → Appends taken taken_then printed → IsHeadline (PlanRead before o) o.nodes taken taken_then status
   plan-headline o stored printed (inl p) prints =
-      answered-headline (PlanRead before o) o.nodes taken taken_then status o.bounds p.begun.known p.design o.workers p.start o.design.per_unit o.cert o.pl_out stored printed (inl (p.read, p.stands, p.begun.knows)) p.begun.routes p.answered prints
+      answered-headline (PlanRead before o) o.nodes taken taken_then status o.bounds p.begun.known p.design o.workers p.start o.design.per_unit o.cert o.pl_out stored printed (inl ((p.read, p.begin), p.stands, p.begun.knows)) p.begun.routes p.answered prints
   plan-headline o stored printed (inr r) prints = absurd (no-search status r.0 searched)
 
   -- so has one of `gen`

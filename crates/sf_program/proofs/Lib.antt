@@ -7,6 +7,11 @@ pub mod Endings
 pub mod Statuses
 pub mod Once
 pub mod OneDesign
+pub mod PlacedSpots
+pub mod OneInput
+pub mod InputRead
+pub mod PlainInput
+pub mod Planned
 pub mod OneKnown
 pub mod ByChoice
 pub mod OneChecked

@@ -103,3 +103,71 @@ with-one P design one (Ok x) (Ok y) a b told = ap Ok (both-same x.0 y.0 x.1 y.1 
 with-one P design one (Ok x) (Err w) a b told = absurd (no-refusal (P design) one x.1 w (λ t. (told t).1) a.1 b)
 with-one P design one (Err v) (Ok y) a b told = absurd (no-refusal (P design) one y.1 v (λ t. (told t).0) b.1 a)
 with-one P design one (Err v) (Err w) a b told = ap Err (same-refusal (P design) one v w told a b)
+
+-- ---- stages whose value is not all told
+
+-- outcomes that are one but for what f leaves out of their values
+abbrev pub Alike : {X Y : Type 0} → (X → Y) → Result X Refusal → Result X Refusal → Type 0
+Alike f (Ok x) (Ok y) = f x ≡ f y
+Alike f (Ok x) (Err w) = ⊥
+Alike f (Err v) (Ok y) = ⊥
+Alike f (Err v) (Err w) = v ≡ w
+
+-- a stage gives one thing at most, but for what f leaves out of it
+abbrev pub GivesAlike : Bool → {X Y : Type 0} → (X → Y) → (Result X Refusal → Type 0) → Type 0
+GivesAlike any {X} f P = (r s : Result X Refusal) → P r → P s → (IsTrue any → IsTold r × IsTold s) → Alike f r s
+
+-- the same refusal on both sides
+alike-refused : {X Y : Type 0} (f : X → Y) (r s : Result X Refusal) (v w : Refusal) → r ≡ Err v → s ≡ Err w → v ≡ w → Alike f r s
+alike-refused f r s v w p q same = subst (λ x. Alike f x s) (sym p) (subst (λ y. Alike f (Err v) y) (sym q) same)
+
+-- a stage, and the next one that gives so much for each value that the first one gives
+pub then-alike : {any : Bool} {X Y Z : Type 0} (f : Y → Z) (P : Result X Refusal → Type 0) (Q : X → Result Y Refusal → Type 0) → GivesOne any P → ((x : X) → P (Ok x) → GivesAlike any f (Q x)) → GivesAlike any f (Then P Q)
+then-alike f P Q one each r s a b told =
+    elim a [
+      | inl m ↦ elim b [
+        | inl n ↦ each n.0 n.1 r s (subst (λ x. Q x r) (same-value P one m.0 n.0 m.1 n.1) m.2) n.2 told
+        | inr n ↦ absurd (no-refusal P one m.0 n.0 (λ t. told-reason s n.0 n.2 (told t).1) m.1 n.1)
+      ]
+      | inr m ↦ elim b [
+        | inl n ↦ absurd (no-refusal P one n.0 m.0 (λ t. told-reason r m.0 m.2 (told t).0) n.1 m.1)
+        | inr n ↦ alike-refused f r s m.0 n.0 m.2 n.2 (same-refusal P one m.0 n.0 (λ t. (told-reason r m.0 m.2 (told t).0, told-reason s n.0 n.2 (told t).1)) m.1 n.1)
+      ]
+    ]
+
+-- a next stage that looks at no more than that has one outcome
+pub alike-then : {any : Bool} {X Y Z : Type 0} (f : X → Y) (P : Result X Refusal → Type 0) (Q : Y → Result Z Refusal → Type 0) → GivesAlike any f P → ((y : Y) → GivesOne any (Q y)) → GivesOne any (Then P (λ x. Q (f x)))
+alike-then f P Q alike each r s a b told =
+    elim a [
+      | inl m ↦ elim b [
+        | inl n ↦ each (f n.0) r s (subst (λ y. Q y r) (alike (Ok m.0) (Ok n.0) m.1 n.1 (λ t. (tt, tt))) m.2) n.2 told
+        | inr n ↦ absurd (alike (Ok m.0) (Err n.0) m.1 n.1 (λ t. (tt, told-reason s n.0 n.2 (told t).1)))
+      ]
+      | inr m ↦ elim b [
+        | inl n ↦ absurd (alike (Err m.0) (Ok n.0) m.1 n.1 (λ t. (told-reason r m.0 m.2 (told t).0, tt)))
+        | inr n ↦ m.2 ∙ ap Err (alike (Err m.0) (Err n.0) m.1 n.1 (λ t. (told-reason r m.0 m.2 (told t).0, told-reason s n.0 n.2 (told t).1))) ∙ sym n.2
+      ]
+    ]
+
+-- what may be given of any value
+abbrev pub unseen : {X : Type 0} → X → Unit {0}
+unseen x = tt
+
+-- a file that may be left out, whose value is not told
+pub named-alike : {any : Bool} {X : Type 0} (P : List ℕ → Result X Refusal → Type 0) → ((name : List ℕ) → GivesAlike any unseen (P name)) → (named : Option (List ℕ)) → GivesAlike any unseen (IfNamed P named)
+named-alike P alike None (Ok x) (Ok y) a b told = refl
+named-alike {X = X} P alike None (Ok x) (Err w) a b told = let e : ◌≡◌ {A = Result (Option X) Refusal} (Err w) (Ok None) = b in absurd (cc)
+named-alike {X = X} P alike None (Err v) s a b told = let e : ◌≡◌ {A = Result (Option X) Refusal} (Err v) (Ok None) = a in absurd (cc)
+named-alike P alike (Some name) (Ok None) s a b told = absurd a
+named-alike P alike (Some name) (Ok (Some x)) (Ok y) a b told = refl
+named-alike P alike (Some name) (Ok (Some x)) (Err w) a b told = absurd (alike name (Ok x) (Err w) a b told)
+named-alike P alike (Some name) (Err v) (Ok None) a b told = absurd b
+named-alike P alike (Some name) (Err v) (Ok (Some y)) a b told = absurd (alike name (Err v) (Ok y) a b told)
+named-alike P alike (Some name) (Err v) (Err w) a b told = alike name (Err v) (Err w) a b told
+
+-- what is kept with its design gives one design
+pub with-alike : {any : Bool} {X : Type 0} (P : Design → Result X Refusal → Type 0) (design : Design) → GivesAlike any unseen (P design) → GivesAlike any (λ (both : Design × X). both.0) (With P design)
+with-alike P design alike (Ok x) (Ok y) a b told = a.0 ∙ sym b.0
+with-alike P design alike (Ok x) (Err w) a b told = alike (Ok x.1) (Err w) a.1 b told
+with-alike P design alike (Err v) (Ok y) a b told = alike (Err v) (Ok y.1) a b.1 told
+with-alike P design alike (Err v) (Err w) a b told = alike (Err v) (Err w) a b told

@@ -73,7 +73,7 @@ silent-one Is one a b p q = let same = one a b p.0 q.0 in triple a b same.0 (p.1
 module _ (contents : Contents) where
   -- what is planned was read
   planned-reads : (o : PlanOptions) (a : Answer) → planned.IsPlanned o (Some contents) a.0 a.1 a.2 → (design : Design) × planned.PlanRead (Some contents) o (Ok design)
-  planned-reads o a p = (p.begun.known, inl (p.read, p.stands, p.begun.knows))
+  planned-reads o a p = (p.begun.known, inl ((p.read, p.begin), p.stands, p.begun.knows))
 
   -- what is gone on with was read
   continued-reads : (o : ResumeOptions) (a : Answer) → IsContinued o (Some contents) a.0 a.1 a.2 → (both : Design × Cert) × ResumeRead (Some contents) o (Ok both)
@@ -87,7 +87,7 @@ module _ (contents : Contents) where
   command-one : HasOneCert → HasOneName → (command : Command) → HasOneWorker command → AtMostOne (IsOf command contents)
   command-one certs names (plan o) single =
       one-of contents.may_fail (planned.PlanRead (Some contents) o) (plan-one contents o) (λ a. planned.IsPlanned o (Some contents) a.0 a.1 a.2) (planned-reads o)
-      (λ a b p q. let same = planned-one certs contents o single.0 single.1 single.2 a b p q in triple a b same.0 same.1 same.2)
+      (λ a b p q. let same = planned-one certs contents o single.0 single.1 single.2 single.3 a b p q in triple a b same.0 same.1 same.2)
   command-one certs names (check o) single =
       one-of contents.may_fail (CheckRead (Some contents) o) (check-read-one contents o) (λ a. IsChecked o (Some contents) a.0 a.1 a.2) (checked-reads contents o)
       (λ a b p q. let same = checked-one contents o names a b p q in triple a b same.0 same.1 same.2)

@@ -14,7 +14,8 @@ use Rattle.sf_checker.specs.declared.answer.Answer.TheVariants.{Yes, No}
 use Rattle.sf_program.proofs.ByChoice.{chosen-one, yes-good}
 use Rattle.sf_program.proofs.Once.{once, then-one, said-one, judged-one, text-one, within-one, with-one, same-value}
 use Rattle.sf_program.proofs.OneKnown.{known-one}
-use Rattle.sf_program.proofs.OneDesign.{design-one, places-one}
+use Rattle.sf_program.proofs.PlacedSpots.{spots-one, spots-stand}
+use Rattle.sf_program.proofs.OneDesign.{design-one}
 
 -- ---- check
 
@@ -93,62 +94,17 @@ module _ (contents : Contents) (o : CheckOptions) where
 
 -- ---- measure
 
--- a placed file gives a design's blocks one list of spots, or one refusal
-spots-one : (contents : Contents) (o : MeasureOptions) (design : Design) → GivesOne contents.may_fail (SpotsRead (Some contents) o design)
-spots-one contents o design =
-    then-one (PlacesRead (Some contents) (codes "placed") o.design.per_unit o.placed) (SpotsPlaced design) (places-one contents (codes "placed") o.design.per_unit o.placed) (λ places. once (SpotsPlaced design places) (λ r s a b. a ∙ sym b))
-
 -- so the design and the spots that are read are one
 pub measure-read-one : (contents : Contents) (o : MeasureOptions) → GivesOne contents.may_fail (MeasureRead (Some contents) o)
 measure-read-one contents o =
-    then-one (DesignRead (Some contents) o.design o.weights) (With (SpotsRead (Some contents) o)) (design-one contents o.design o.weights) (λ design. with-one (SpotsRead (Some contents) o) design (spots-one contents o design))
-
--- the spots of blocks stand by number
-sized-number : (b : ℕ) (name : List ℕ) (line : Place) (size : Option (ℕ × ℕ)) (spot : Spot) → sized_spot b name line size ≡ Ok spot → spot.block ≡ b
-sized-number b name line None spot e = absurd (cc)
-sized-number b name line (Some size) spot e = cc
-
--- whatever lines have its name, the spot of a block has its number
-spot-number : (b : ℕ) (name : List ℕ) (lines : List Place) (spot : Spot) → spot_said b name lines ≡ Ok spot → spot.block ≡ b
-spot-number b name [] spot e = absurd (cc)
-spot-number b name (line ∷ []) spot e = sized-number b name line line.size spot e
-spot-number b name (line ∷ other ∷ more) spot e = absurd (cc)
-
--- spots by number from b on, as many as there are
-abbrev StandFrom : ℕ → ℕ → List Spot → Type 0
-StandFrom b n spots = (map (λ (s : Spot). s.block) spots ≡ range_with_len b n) × (length spots ≡ n)
-
--- one spot before others that stand by number
-one-more : (b n : ℕ) (first : Result Spot Refusal) (others : Result (List Spot) Refusal) (spots : List Spot) → ((s : Spot) → first ≡ Ok s → s.block ≡ b) → ((ss : List Spot) → others ≡ Ok ss → StandFrom (b + 1) n ss)
-    → (first >>= λ s. others >>= λ ss. Ok (s ∷ ss)) ≡ Ok spots → StandFrom b (suc n) spots
-one-more b n (Ok s) (Ok ss) spots one more e =
-    let same : s ∷ ss ≡ spots = cc in
-    let k = more ss refl in
-    subst (StandFrom b (suc n)) same (ap (λ x. x ∷ map (λ (t : Spot). t.block) ss) (one s refl) ∙ ap (λ xs. b ∷ xs) k.0, omega (arith, k.1))
-one-more b n (Ok s) (Err why) spots one more e = absurd (cc)
-one-more b n (Err why) others spots one more e = absurd (cc)
-
--- the spots of all blocks stand by number
-spots-number : (b : ℕ) (blocks : List Block) (lines : List Place) (spots : List Spot) → spots_said b blocks lines ≡ Ok spots → StandFrom b (length blocks) spots
-spots-number b [] lines spots e = let same : [] ≡ spots = cc in subst (StandFrom b 0) same (refl, refl)
-spots-number b (block ∷ blocks) lines spots e =
-    one-more b (length blocks) (spot_said b block.name (lines_named block.name lines)) (spots_said (b + 1) blocks lines) spots
-    (λ s. spot-number b block.name (lines_named block.name lines) s) (λ ss. spots-number (b + 1) blocks lines ss) e
+    then-one (DesignRead (Some contents) o.design o.weights) (With (SpotsRead (Some contents) o.design.per_unit o.placed)) (design-one contents o.design o.weights) (λ design. with-one (SpotsRead (Some contents) o.design.per_unit o.placed) design (spots-one contents o.design.per_unit o.placed design))
 
 module _ (contents : Contents) (o : MeasureOptions) where
-  -- so do those that are read
-  numbered : (design : Design) (spots : List Spot) → SpotsRead (Some contents) o design (Ok spots) → IsByNumber spots
-  numbered design spots read =
-      elim read [
-        | inl m ↦ (let k = spots-number 0 design.blocks m.0.places spots (sym m.2) in subst (λ n. map (λ (s : Spot). s.block) spots ≡ range_with_len 0 n) (sym k.1) k.0)
-        | inr m ↦ (let e = m.2 in absurd (cc))
-      ]
-
   -- the spots that are read beside a design are read for it
-  spots-read : (design : Design) (spots : List Spot) → MeasureRead (Some contents) o (Ok (design, spots)) → SpotsRead (Some contents) o design (Ok spots)
+  spots-read : (design : Design) (spots : List Spot) → MeasureRead (Some contents) o (Ok (design, spots)) → SpotsRead (Some contents) o.design.per_unit o.placed design (Ok spots)
   spots-read design spots read =
       elim read [
-        | inl m ↦ subst (λ (d : Design). SpotsRead (Some contents) o d (Ok spots)) (sym m.2.0) m.2.1
+        | inl m ↦ subst (λ (d : Design). SpotsRead (Some contents) o.design.per_unit o.placed d (Ok spots)) (sym m.2.0) m.2.1
         | inr m ↦ (let e = m.2 in absurd (cc))
       ]
 
@@ -159,7 +115,7 @@ module _ (contents : Contents) (o : MeasureOptions) where
       let design : p.design ≡ q.design = ap (λ (x : Design × List Spot). x.0) both in
       let spots : p.spots ≡ q.spots = ap (λ (x : Design × List Spot). x.1) both in
       let judged = subst (λ (ss : List Spot). IsVerdict q.design ss p.verdict) spots (subst (λ (d : Design). IsVerdict d p.spots p.verdict) design p.judged) in
-      let verdict = one-verdict q.design q.spots (numbered q.design q.spots (spots-read q.design q.spots q.reads)) p.verdict q.verdict judged q.judged in (
+      let verdict = one-verdict q.design q.spots (spots-stand contents o.design.per_unit o.placed q.design q.spots (spots-read q.design q.spots q.reads)).0 p.verdict q.verdict judged q.judged in (
         p.status_is ∙ ap verdict_status verdict ∙ sym q.status_is,
         p.text_is ∙ ap (λ (d : Design). verdict_text d p.spots p.verdict) design ∙ ap (λ (ss : List Spot). verdict_text q.design ss p.verdict) spots ∙ ap (verdict_text q.design q.spots) verdict ∙ sym q.text_is,
       )

@@ -11,7 +11,7 @@ use Rattle.sf_gsrc.specs.declared.output.GsrcNets.{GsrcNets}
 use Rattle.sf_gsrc.specs.declared.output.GsrcPlaces.{GsrcPlaces}
 use Rattle.sf_model.specs.declared.raw.Parts.{Parts}
 use Rattle.sf_soft_shapes.specs.Listed.{AreListsOf}
-use Rattle.sf_program.proofs.Common.{Bool, codes, Contents, Design, Block, Input, gsrc, yal, DesignOptions, PlanOptions, WeightOptions, AtMostOne, GivesOne, HasBlocksOf, Refusal, Then, BudgetTested, BudgetedDesign, CountTested, budget_of, PlanDesign, Admitted, BlocksRead, Built, DesignMade, DesignRead, GsrcRead, IfNamed, JoinedRead, Judged, ListsMade, NetsRead, PartsAdmitted, PartsRead, PlacesRead, Said, TextRead, Weighed, WeightsRead, YalRead, YalWeighed, outline_of, weights_of, build_refusal, gsrc_refusal, join_refusal, weight_refusal, yal_refusal, WeighedParts, Shape, RawBlock, PlacedRead, WeighedRead, WiredRead}
+use Rattle.sf_program.proofs.Common.{Bool, codes, Contents, Design, Block, Input, gsrc, yal, DesignOptions, PlanOptions, WeightOptions, AtMostOne, GivesOne, HasBlocksOf, Refusal, Then, BudgetTested, BudgetedDesign, CountTested, budget_of, Admitted, BlocksRead, Built, DesignMade, DesignRead, GsrcRead, IfNamed, JoinedRead, Judged, ListsMade, NetsRead, PartsAdmitted, PartsRead, PlacesRead, Said, TextRead, Weighed, WeightsRead, YalRead, YalWeighed, outline_of, weights_of, build_refusal, gsrc_refusal, join_refusal, weight_refusal, yal_refusal, WeighedParts, Shape, RawBlock, PlacedRead, WeighedRead, WiredRead}
 use Rattle.sf_model.specs.declared.fault.BuildFault.TheVariants.{NoShape}
 use Rattle.sf_model.specs.Built.{design_blocks, first_shapeless}
 use Rattle.sf_model.proofs.Determined.{determined}
@@ -167,7 +167,7 @@ module _ (o : DesignOptions) (w : WeightOptions) (read : WeighedParts) where
   names-kept (b ∷ bs) (l ∷ ls) e = ap (λ ns. b.name ∷ ns) (names-kept bs ls (omega arith))
 
   -- the design has the blocks of the parts
-  made-blocks : (design : Design) → DesignMade o w read (Ok design) → HasBlocksOf read.parts.blocks design
+  pub made-blocks : (design : Design) → DesignMade o w read (Ok design) → HasBlocksOf read.parts.blocks design
   made-blocks design made =
       elim made [
         | inl m ↦ record { count = m.2.block_count; names = ap (map (λ (b : Block). b.name)) m.2.blocks ∙ names-kept read.parts.blocks m.0 m.1.one_each }
@@ -185,16 +185,17 @@ count-one is_long count blocks (Ok x) (Err w) a b = let within = a.1 b.0 in let 
 count-one is_long count blocks (Err v) (Ok y) a b = let within = b.1 a.0 in let over = a.1 in absurd (omega arith)
 count-one is_long count blocks (Err v) (Err w) a b = ap Err (a.2 ∙ sym b.2)
 
--- so what `plan` reads is one design
-pub designed-one : (contents : Contents) (o : PlanOptions) → GivesOne contents.may_fail (PlanDesign (Some contents) o)
-designed-one contents o =
-    then-one (PartsAdmitted (Some contents) o.design o.weights) (BudgetedDesign o) (parts-admitted-one contents o.design o.weights)
-    (λ read. then-one (BudgetTested o.is_long o.nodes (length read.parts.blocks)) (λ budget. DesignMade o.design o.weights read) (once (BudgetTested o.is_long o.nodes (length read.parts.blocks)) (count-one o.is_long (budget_of o.nodes (length read.parts.blocks)) (length read.parts.blocks))) (λ budget. once (DesignMade o.design o.weights read) (made-one o.design o.weights read)))
+-- so admitted parts become one design within its budget, or are refused for one reason
+pub budgeted-one : {any : Bool} (o : PlanOptions) (read : WeighedParts) → GivesOne any (BudgetedDesign o read)
+budgeted-one o read =
+    then-one (BudgetTested o.is_long o.nodes (length read.parts.blocks)) (λ budget. DesignMade o.design o.weights read)
+    (once (BudgetTested o.is_long o.nodes (length read.parts.blocks)) (count-one o.is_long (budget_of o.nodes (length read.parts.blocks)) (length read.parts.blocks)))
+    (λ budget. once (DesignMade o.design o.weights read) (made-one o.design o.weights read))
 
 -- ---- the blocks
 
 -- parts that are admitted are those that were read
-admitted-parts : (contents : Contents) (o : DesignOptions) (w : WeightOptions) (read other : WeighedParts) → PartsRead (Some contents) o.per_unit o.input w.net_weights (Ok read) → PartsAdmitted (Some contents) o w (Ok other) → other ≡ read
+pub admitted-parts : (contents : Contents) (o : DesignOptions) (w : WeightOptions) (read other : WeighedParts) → PartsRead (Some contents) o.per_unit o.input w.net_weights (Ok read) → PartsAdmitted (Some contents) o w (Ok other) → other ≡ read
 admitted-parts contents o w read other said admitted =
     elim admitted [
       | inl m ↦ m.2.0 ∙ same-value (PartsRead (Some contents) o.per_unit o.input w.net_weights) (parts-one contents o.per_unit o.input w.net_weights) m.0 read m.1 said
@@ -211,17 +212,8 @@ design-blocks contents o w read design said stands =
     ]
 
 -- a design within its budget is made
-budgeted-made : (o : PlanOptions) (read : WeighedParts) (design : Design) → BudgetedDesign o read (Ok design) → DesignMade o.design o.weights read (Ok design)
+pub budgeted-made : (o : PlanOptions) (read : WeighedParts) (design : Design) → BudgetedDesign o read (Ok design) → DesignMade o.design o.weights read (Ok design)
 budgeted-made o read design h = elim h [ inl m ↦ m.2 | inr m ↦ (let e = m.2 in absurd (cc)) ]
-
--- so what `plan` reads has the blocks that its files name
-pub designed-blocks : (contents : Contents) (o : PlanOptions) (read : WeighedParts) (design : Design) → PartsRead (Some contents) o.design.per_unit o.design.input o.weights.net_weights (Ok read) → PlanDesign (Some contents) o (Ok design)
-    → HasBlocksOf read.parts.blocks design
-designed-blocks contents o read design said stands =
-    elim stands [
-      | inl m ↦ subst (λ (p : WeighedParts). HasBlocksOf p.parts.blocks design) (admitted-parts contents o.design o.weights read m.0 said m.1) (made-blocks o.design o.weights m.0 design (budgeted-made o m.0 design m.2))
-      | inr m ↦ (let e = m.2 in absurd (cc))
-    ]
 
 -- joining keeps the blocks
 placed-by : (twice : Option (List ℕ)) (made parts : Parts) → placed_once twice made ≡ Ok parts → parts ≡ made

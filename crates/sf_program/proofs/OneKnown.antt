@@ -1,9 +1,10 @@
 -- What a design knows is one thing, and changes no block.
 use Rattle.std.proofs.Common.{◌≡◌, inl, inr, List, map, length, Some, Ok, Err, ap, ◌∙◌}
-use Rattle.sf_program.proofs.Common.{Contents, Design, Block, DesignOptions, PlanOptions, WeightOptions, AtMostOne, GivesOne, HasBlocksOf, PlanDesign, PlanRead, DesignRead, PartsRead, KnownRead, MadeKnown, WeighedParts, RawBlock, BoundsChoice}
+use Rattle.sf_program.proofs.Common.{Contents, Design, Block, DesignOptions, PlanOptions, WeightOptions, AtMostOne, GivesOne, HasBlocksOf, PlanInput, PlanRead, DesignRead, PartsRead, KnownRead, MadeKnown, WeighedParts, RawBlock, BoundsChoice}
 use Rattle.sf_known.proofs.OneKnown.{knows-one, known-blocks}
-use Rattle.sf_program.proofs.Once.{once, then-one}
-use Rattle.sf_program.proofs.OneDesign.{design-one, designed-one, designed-blocks}
+use Rattle.sf_program.proofs.Once.{alike-then, once, then-one}
+use Rattle.sf_program.proofs.OneDesign.{design-one}
+use Rattle.sf_program.proofs.OneInput.{design_in, input-alike, input-blocks}
 
 -- by the same bounds a design gets to know one thing
 made-known-one : (bounds : BoundsChoice) (design : Design) → AtMostOne (MadeKnown bounds design)
@@ -19,7 +20,7 @@ known-one contents o w bounds =
 -- so do those that `plan` reads
 pub plan-one : (contents : Contents) (o : PlanOptions) → GivesOne contents.may_fail (PlanRead (Some contents) o)
 plan-one contents o =
-    then-one (PlanDesign (Some contents) o) (MadeKnown o.bounds) (designed-one contents o) (λ design. once (MadeKnown o.bounds design) (made-known-one o.bounds design))
+    alike-then design_in (PlanInput (Some contents) o) (MadeKnown o.bounds) (input-alike contents o) (λ design. once (MadeKnown o.bounds design) (made-known-one o.bounds design))
 
 -- a design with the same blocks has a block for each that the files name
 kept-blocks : (blocks : List RawBlock) (design known : Design) → known.blocks ≡ design.blocks → HasBlocksOf blocks design → HasBlocksOf blocks known
@@ -33,6 +34,6 @@ pub plan-blocks : (contents : Contents) (o : PlanOptions) (read : WeighedParts) 
     → HasBlocksOf read.parts.blocks design
 plan-blocks contents o read design said stands =
     elim stands [
-      | inl m ↦ kept-blocks read.parts.blocks m.0 design (known-blocks o.bounds m.0 design m.2) (designed-blocks contents o read m.0 said m.1)
+      | inl m ↦ kept-blocks read.parts.blocks m.0.0 design (known-blocks o.bounds m.0.0 design m.2) (input-blocks contents o read m.0 said m.1)
       | inr m ↦ (let e = m.2 in absurd (cc))
     ]

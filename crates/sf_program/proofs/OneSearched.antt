@@ -1,14 +1,14 @@
 -- A search by one worker has one answer, where its certificate is the only one.
 use Rattle.std.proofs.Common.{◌≡◌, inl, ℕ, ◌*◌, Bool, false, List, [], ◌∷◌, ◌++◌, length, Option, Some, None, Ok, Err, refl, sym, ap, subst, ◌∙◌, arith}
 use Rattle.sf_generated.specs.Made.{DesignGenerated, by_default, both_weights, parts_made, texts_stored}
-use Rattle.sf_program.proofs.Common.{Contents, Design, Spot, block_count, Tree, width, height, spots_of, wire, Expr, spells-one, by_number, Cert, decided, cert_text, Outcome, GenOptions, PlanOptions, GenRead, IsGenerated, cert_name, Answer, AtMostOne, GivesOne, BudgetTested, IsAnswered, IsEnding, AreMeasures, IsPlanned, IsReported, IsSearched, PlanRead, budget_of, outcome_status, placement_stores, Stored, alike, BoundsChoice, Standard, Strong, Pair, Fit, Both, IsRouted, report_text}
-use Rattle.sf_anneal.specs.Starts.{IsImprovedStarts, first_least}
+use Rattle.sf_program.proofs.Common.{Beginning, Contents, Design, Spot, block_count, Tree, width, height, spots_of, wire, Expr, spells-one, by_number, Cert, decided, cert_text, Outcome, GenOptions, PlanOptions, GenRead, IsGenerated, cert_name, Answer, AtMostOne, GivesOne, BudgetTested, IsAnswered, IsEnding, AreMeasures, IsPlanned, IsReported, IsSearched, PlanRead, budget_of, outcome_status, placement_stores, Stored, alike, BoundsChoice, Standard, Strong, Pair, Fit, Both, IsRouted, report_text}
 use Rattle.sf_known.specs.Known.{IsKnownBy, cheaper}
 use Rattle.sf_known.specs.Initial.{IsInitialPlan}
 use Rattle.sf_pl_writer.specs.declared.report.Outcome.TheVariants as word
 use Rattle.sf_program.specs.Planned.{IsTold}
 use Rattle.sf_program.proofs.Once.{once, then-one, same-value}
 use Rattle.sf_program.proofs.OneKnown.{plan-one}
+use Rattle.sf_program.proofs.PlainInput.{nothing-beside}
 use Rattle.sf_program.proofs.OneDesign.{count-one, made-one}
 
 -- a cost and a bound have one ending
@@ -66,16 +66,7 @@ pub gen-one : (any : Bool) (o : GenOptions) → GivesOne any (GenRead o)
 gen-one any o =
     then-one (BudgetTested false o.nodes o.count) (λ budget. DesignGenerated o) (once (BudgetTested false o.nodes o.count) (count-one false (budget_of o.nodes o.count) o.count)) (λ budget. once (DesignGenerated o) (generated-design o))
 
--- no walks find no plan
-none-found : (results : List (Option (Expr × ℕ))) → length results ≡ 0 → first_least results ≡ None
-none-found [] h = refl
-none-found (r ∷ rs) h = absurd (omega (arith, h))
-
--- so a search that asks for none begins with none
-none-begun : (design : Design) (seed count moves : ℕ) (start : Option (Expr × ℕ)) → count ≡ 0 → IsImprovedStarts design seed count moves start → start ≡ None
-none-begun design seed count moves start none s = s.no_dearer.none (s.starts.least ∙ none-found s.starts.results (s.starts.many ∙ none))
-
--- so does one for which none is known
+-- none is known by other bounds than the strong ones
 none-known : (bounds : BoundsChoice) (design : Design) (known : Option (Expr × ℕ)) → (bounds ≡ Strong → ⊥) → IsKnownBy bounds design known → known ≡ None
 none-known Standard design known plain h = h
 none-known Strong design known plain h = absurd (plain refl)
@@ -91,10 +82,10 @@ plain-routes Pair design routed plain h = h.1
 plain-routes Fit design routed plain h = h.1
 plain-routes Both design routed plain h = h.1
 
--- a search that asks for neither begins with no plan
-none-first : (o : PlanOptions) (design known : Design) (start : Option (Expr × ℕ)) → o.starts.count ≡ 0 → (o.bounds ≡ Strong → ⊥) → IsInitialPlan o.starts o.bounds design known start → start ≡ None
-none-first o design known start bare plain b =
-    let walked = none-begun design o.starts.seed o.starts.count o.starts.moves b.walked bare b.walks in
+-- a search that asks for neither, and to which no placement is given, begins with no plan
+none-first : (o : PlanOptions) (design : Design) (begin : Option Beginning) (known : Design) (start : Option (Expr × ℕ)) → o.starts.count ≡ 0 → (o.bounds ≡ Strong → ⊥) → begin ≡ None → IsInitialPlan o.starts o.bounds design begin known start → start ≡ None
+none-first o design begin known start bare plain alone b =
+    let walked = b.walks.none bare alone in
     let least = none-known o.bounds known b.least plain b.knows in
     b.is ∙ ap (λ w. cheaper w b.least) walked ∙ least
 
@@ -116,13 +107,13 @@ module _ (certs : HasOneCert) where
       (r.status_is ∙ ap outcome_status said ∙ sym s.status_is, both.0, both.1)
 
   -- so are those of `plan`
-  pub planned-one : (contents : Contents) (o : PlanOptions) → o.workers ≡ 1 → o.starts.count ≡ 0 → (o.bounds ≡ Strong → ⊥) → (a b : Answer) → IsPlanned o (Some contents) a.0 a.1 a.2 → IsPlanned o (Some contents) b.0 b.1 b.2 → (a.0 ≡ b.0) × (a.1 ≡ b.1) × (a.2 ≡ b.2)
-  planned-one contents o single bare plain a b p q =
-      let known = same-value (PlanRead (Some contents) o) (plan-one contents o) p.begun.known q.begun.known (inl (p.read, p.stands, p.begun.knows)) (inl (q.read, q.stands, q.begun.knows)) in
+  pub planned-one : (contents : Contents) (o : PlanOptions) → o.workers ≡ 1 → o.starts.count ≡ 0 → (o.bounds ≡ Strong → ⊥) → o.begin ≡ None → (a b : Answer) → IsPlanned o (Some contents) a.0 a.1 a.2 → IsPlanned o (Some contents) b.0 b.1 b.2 → (a.0 ≡ b.0) × (a.1 ≡ b.1) × (a.2 ≡ b.2)
+  planned-one contents o single bare plain none a b p q =
+      let known = same-value (PlanRead (Some contents) o) (plan-one contents o) p.begun.known q.begun.known (inl ((p.read, p.begin), p.stands, p.begun.knows)) (inl ((q.read, q.begin), q.stands, q.begun.knows)) in
       let design = plain-routes o.bounds p.begun.known p.design plain p.begun.routes ∙ known ∙ sym (plain-routes o.bounds q.begun.known q.design plain q.begun.routes) in
       let By : ℕ → Option (Expr × ℕ) → Design → Answer → Type 0 = λ n s d x. IsAnswered o.bounds d n (budget_of o.nodes (block_count d)) s o.design.per_unit o.cert o.pl_out x.0 x.1 x.2 in
-      let first = none-first o p.read p.begun.known p.start bare plain p.begun.begun in
-      let second = none-first o q.read q.begun.known q.start bare plain q.begun.begun in
+      let first = none-first o p.read p.begin p.begun.known p.start bare plain (nothing-beside (Some contents) o none (p.read, p.begin) p.stands) p.begun.begun in
+      let second = none-first o q.read q.begin q.begun.known q.start bare plain (nothing-beside (Some contents) o none (q.read, q.begin) q.stands) q.begun.begun in
       answered-one o.bounds q.design (budget_of o.nodes (block_count q.design)) o.design.per_unit o.cert o.pl_out a b
       (subst (λ n. By n None q.design a) single (subst (λ (d : Design). By o.workers None d a) design (subst (λ s. By o.workers s p.design a) first p.answered)))
       (subst (λ n. By n None q.design b) single (subst (λ s. By o.workers s q.design b) second q.answered))

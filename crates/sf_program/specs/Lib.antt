@@ -1,5 +1,6 @@
 pub mod Knowing
 pub mod Chosen
+pub mod Beginning
 pub mod Planned
 pub mod Checked
 pub mod Resumed

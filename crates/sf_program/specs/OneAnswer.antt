@@ -1,5 +1,5 @@
 -- That words and texts have one answer: what it is said of, and what is left open.
-use Rattle.std.specs.Prelude.{◌≡◌, ◌≢◌, ⊤, ℕ, List, [], map, length, Option, Some, Bool, IsTrue, Result, Ok, Err}
+use Rattle.std.specs.Prelude.{◌≡◌, ◌≢◌, ⊤, ℕ, List, [], map, length, Option, None, Some, Bool, IsTrue, Result, Ok, Err}
 use Rattle.std.specs.Io.KnownBytes.{Appends}
 use Rattle.sf_io.specs.Outside.{Contents}
 use Rattle.sf_io.specs.declared.status.Status.{Status}
@@ -56,7 +56,7 @@ refusal status line = (status, [], line)
 
 -- several workers settle subproblems in an order that is not told, and a search that goes on or that begins with a plan is as theirs with one too: only one by one worker, from the root and from nothing, is said to be a function of its design
 abbrev pub HasOneWorker : Command → Type 0
-HasOneWorker (plan o) = (o.workers ≡ 1) × (o.starts.count ≡ 0) × (o.bounds ≢ Strong)
+HasOneWorker (plan o) = (o.workers ≡ 1) × (o.starts.count ≡ 0) × (o.bounds ≢ Strong) × (o.begin ≡ None)
 HasOneWorker (resume o) = ⊥
 HasOneWorker other = ⊤
 

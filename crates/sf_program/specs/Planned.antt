@@ -35,9 +35,12 @@ use Rattle.sf_words.specs.declared.command.BoundsChoice.{BoundsChoice}
 use Rattle.sf_words.specs.Meaning.{PlanOptions}
 use Rattle.sf_designs.specs.Outcome.{Refusal, Then}
 use Rattle.sf_designs.specs.Refusals.{over_limit}
-use Rattle.sf_designs.specs.Reading.{PartsAdmitted, DesignMade}
+use Rattle.sf_designs.specs.Reading.{PartsAdmitted, DesignMade, With}
+use Rattle.sf_program.specs.Beginning.{BeginRead}
 use Rattle.sf_program.specs.Knowing.{MadeKnown}
 use Rattle.sf_program.specs.Chosen.{chosen_value, chosen_part}
+use Rattle.sf_anneal.specs.declared.beginning.Beginning.{Beginning}
+use Rattle.sf_anneal.specs.Starts.{begun_plan}
 use Rattle.sf_known.specs.Initial.{IsSearchInput}
 use Rattle.sf_designs.specs.Stores.{Stored}
 use Rattle.sf_designs.specs.Weighed.{WeighedParts}
@@ -68,9 +71,17 @@ BudgetedDesign o read = Then (BudgetTested o.is_long o.nodes (length read.parts.
 abbrev pub PlanDesign : Option Contents → PlanOptions → Result Design Refusal → Type 0
 PlanDesign held o = Then (PartsAdmitted held o.design o.weights) (BudgetedDesign o)
 
--- which knows what was asked for
+-- the same design, and then what its search begins with where the file of a placement is named
+abbrev pub BegunDesign : Option Contents → PlanOptions → WeighedParts → Result (Design × Option Beginning) Refusal → Type 0
+BegunDesign held o read = Then (BudgetedDesign o read) (With (BeginRead held o read.parts))
+
+-- all that the files stand for which the words name
+abbrev pub PlanInput : Option Contents → PlanOptions → Result (Design × Option Beginning) Refusal → Type 0
+PlanInput held o = Then (PartsAdmitted held o.design o.weights) (BegunDesign held o)
+
+-- the design that knows what was asked for, where nothing of all that is refused
 abbrev pub PlanRead : Option Contents → PlanOptions → Result Design Refusal → Type 0
-PlanRead held o = Then (PlanDesign held o) (MadeKnown o.bounds)
+PlanRead held o = Then (PlanInput held o) (λ input. MadeKnown o.bounds input.0)
 
 -- how a search ended: optimal, with no plan since none fits, or with its budget spent
 abbrev pub IsEnding : ℕ → ℕ → Outcome → Type 0
@@ -140,11 +151,13 @@ pub record IsAnswered (bounds : BoundsChoice) (design : Design) (workers budget 
   pub searched : IsSearched bounds design workers budget start cert
   pub reported : IsReported bounds design scale cert_name pl_name cert status stored printed
 
--- the files stand for a design, and this is the answer of its search where it knows what was asked for and has the paths that were found, which begins with what walks find or with what is known
+-- the files stand for a design, and this is the answer of its search where it knows what was asked for and has the paths that were found, which begins with what walks find, with the plan to which a placement is packed that is given, or with what is known. Where that packed plan fits the outline, what is printed costs no more
 pub record IsPlanned (o : PlanOptions) (before : Option Contents) (status : Status) (stored : List Stored) (printed : List ℕ) : Type 0 where
   pub read : Design
-  pub stands : PlanDesign before o (Ok read)
+  pub begin : Option Beginning
+  pub stands : PlanInput before o (Ok (read, begin))
   pub design : Design
   pub start : Option (Expr × ℕ)
-  pub begun : IsSearchInput o.starts o.bounds read design start
+  pub begun : IsSearchInput o.starts o.bounds read begin design start
   pub answered : IsAnswered o.bounds design o.workers (budget_of o.nodes (block_count design)) start o.design.per_unit o.cert o.pl_out status stored printed
+  pub no_dearer : IfSome (begun_plan begin) (λ plan. answered.cert.cost ≤ plan.1)

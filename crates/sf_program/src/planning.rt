@@ -8,56 +8,24 @@ ghost use Rattle.sf_pl_writer.specs.Length.{IsScale};
 ghost use Rattle.sf_words.specs.Seen.{plan_seen, text_of};
 ghost use Rattle.sf_words.specs.Meaning.{plan};
 ghost use Rattle.sf_program.specs.Answer.{Obeys};
-ghost use Rattle.sf_designs.specs.Loads.{ReadsShelf, TellsNoLoad};
-ghost use Rattle.sf_designs.specs.Outcome.{Ends};
-ghost use Rattle.sf_program.specs.Planned.{IsAnswered, IsReported, BudgetedDesign};
-ghost use Rattle.sf_program.specs.Planned.{PlanDesign, budget_of};
+ghost use Rattle.sf_designs.specs.Loads.{ReadsShelf};
+ghost use Rattle.sf_program.specs.Planned.{IsAnswered, IsReported, budget_of};
 ghost use Rattle.sf_program.specs.Resumed.{IsGood};
 ghost use Rattle.sf_designs.specs.Stores.{Gives};
-ghost use Rattle.sf_designs.specs.Weighed.{admitted_in};
 
-use crate::budget::{budget_of, test_budget};
+use crate::budget::budget_of;
 use crate::chosen::search_chosen;
 use crate::plan_answer::{Ended, Names, ending_of, tell_none, tell_plan};
-use sf_designs::{AdmittedParts, Stop, Work, make_design, read_admitted};
+use crate::plan_input::read_input;
+use sf_designs::{Stop, Work};
 use sf_io::{Gate, Shelf};
 use sf_known::{Begun, begin};
-use sf_model::{Design, admitted_parts_keep_limits};
+use sf_model::Design;
 use sf_polish::Expr;
 use sf_rounds::{Found, SearchOptions};
 use sf_words::{BoundsChoice, PlanWords};
 use std::alloc::{AllocError as NoMemory, Global};
 use std::thread::Threads;
-
-/// The design for which the named files stand, where the budget is within its limit.
-pub fn read_plan<S: Shelf>(
-    alloc: Global,
-    shelf: &mut S,
-    words: &PlanWords<'_>,
-) -> Result<Design, Stop>
-    ensures design { Ends (λ x. x) result (PlanDesign (S.seen shelf.old).holds (plan_seen words.now)) }
-    ensures shelf { ReadsShelf (S.seen shelf.old) (S.seen shelf.new) result }
-{
-    let admitted = read_admitted(alloc, shelf, &words.design, words.weights)?;
-    within_budget(alloc, words, admitted)
-}
-
-/// The design of admitted parts, where the budget is within its limit.
-fn within_budget(
-    alloc: Global,
-    words: &PlanWords<'_>,
-    admitted: AdmittedParts,
-) -> Result<Design, Stop>
-    ensures design { Ends (λ x. x) result (BudgetedDesign (plan_seen words.now) (admitted_in admitted)) }
-    ensures tells { TellsNoLoad result }
-{
-    admitted_parts_keep_limits();
-    let blocks = admitted.weighed.read.parts.blocks.as_slice().len() as u64;
-    match test_budget(alloc, words.is_long, words.nodes, blocks) {
-        Ok(()) => make_design(alloc, &words.design, words.weights, admitted),
-        Err(stop) => Err(stop),
-    }
-}
 
 /// What is told of a search of a design.
 pub fn tell_found(
@@ -104,8 +72,9 @@ pub fn plan<R: Threads + Sync, S: Shelf, G: Gate>(
     ensures answer { Obeys (plan (plan_seen words.now)) (S.seen shelf.old).holds result }
     ensures shelf { ReadsShelf (S.seen shelf.old) (S.seen shelf.new) result }
 {
-    let design = read_plan(alloc, shelf, words)?;
-    let Begun { design, start } = begin(rt, alloc, design, words.starts, words.bounds)?;
+    let input = read_input(alloc, shelf, words)?;
+    let (starts, bounds) = (words.starts, words.bounds);
+    let Begun { design, start } = begin(rt, alloc, input.design, input.begin, starts, bounds)?;
     let names = Names {
         cert: words.cert,
         pl: words.pl_out,
@@ -113,15 +82,7 @@ pub fn plan<R: Threads + Sync, S: Shelf, G: Gate>(
     };
     let (nodes, workers) = (words.nodes, words.workers);
     let work = search_design(
-        rt,
-        alloc,
-        words.bounds,
-        &design,
-        start,
-        nodes,
-        workers,
-        names,
-        gate,
+        rt, alloc, bounds, &design, start, nodes, workers, names, gate,
     )?;
     Ok(work)
 }

@@ -1,6 +1,7 @@
 //! Whole runs over a shelf and a sink in memory, as tables of what is given and what is answered.
 
 mod batch;
+mod beginning;
 mod bounds;
 mod checking;
 mod failing;

@@ -1,11 +1,11 @@
--- A floorplan that fits has few leaves, of which no side is too long.
+-- A floorplan has few leaves, of which no side is too long.
 use Rattle.std.proofs.Common.{◌<◌, ◌≤◌, ℕ, [], arith}
-use Rattle.sf_subsets.proofs.Common.{All-contains, Contains, Design, Shape, Tree, block_count, leaves, shapes_of, AllByRecursion, recursion_from_All, each-left, each-right, IsSide, Leaf, Beside, Above, HasSides, leaf_count, IsFitting}
+use Rattle.sf_subsets.proofs.Common.{All-contains, Contains, Design, Shape, Tree, block_count, leaves, shapes_of, AllByRecursion, recursion_from_All, each-left, each-right, IsSide, Leaf, Beside, Above, HasSides, leaf_count, IsLegal}
 use Rattle.sf_place.proofs.ByNumber.{plan-leaves}
 
 -- it has few leaves
-pub fitting-few : (design : Design) (tree : Tree) → IsFitting design tree → leaf_count tree ≤ 320
-fitting-few design tree h = omega (arith, plan-leaves (block_count design) tree h.legal.blocks, design.limits.few_blocks)
+pub legal-few : (design : Design) (tree : Tree) → IsLegal design tree → leaf_count tree ≤ 320
+legal-few design tree h = omega (arith, plan-leaves (block_count design) tree h.blocks, design.limits.few_blocks)
 
 -- leaves of the design's blocks, in shapes of their lists, have sides that keep the limit
 sided : (design : Design) (t : Tree) → AllByRecursion (λ leaf. leaf.0 < block_count design) (leaves t) → AllByRecursion (λ leaf. Contains (shapes_of design leaf.0) leaf.1) (leaves t) → HasSides t
@@ -21,7 +21,7 @@ sided design (Above l r) below listed =
     (sided design l (each-left P (leaves l) (leaves r) below) (each-left Q (leaves l) (leaves r) listed), sided design r (each-right P (leaves l) (leaves r) below) (each-right Q (leaves l) (leaves r) listed))
 
 -- so has a floorplan
-pub fitting-sides : (design : Design) (tree : Tree) → IsFitting design tree → HasSides tree
-fitting-sides design tree h =
-    sided design tree (recursion_from_All (λ leaf. leaf.0 < block_count design) (leaves tree) h.legal.blocks.no_other)
-    (recursion_from_All (λ leaf. Contains (shapes_of design leaf.0) leaf.1) (leaves tree) h.legal.listed)
+pub legal-sides : (design : Design) (tree : Tree) → IsLegal design tree → HasSides tree
+legal-sides design tree h =
+    sided design tree (recursion_from_All (λ leaf. leaf.0 < block_count design) (leaves tree) h.blocks.no_other)
+    (recursion_from_All (λ leaf. Contains (shapes_of design leaf.0) leaf.1) (leaves tree) h.listed)

@@ -3,10 +3,12 @@
 ghost use Rattle.std.specs.Prelude.{◌≡◌, ◌+◌, ◌<◌, ◌≤◌, All, IfOk, IfSome};
 ghost use Rattle.sf_gsrc.specs.Ranges.{HasPinsInAnyRange};
 ghost use Rattle.sf_model.specs.Admitted.{HasPinsInRange, HasSizes, IsSized};
+ghost use Rattle.sf_model.specs.Built.{IsOutline};
 
 use rand_pcg::Lcg64Xsh32;
 use sf_anneal::{
-    flip_chain, improve, improved_starts, one_start, run_count, starts, swap_operands, swap_step,
+    Beginning, flip_chain, improve, improved_starts, one_start, run_count, starts, swap_operands,
+    swap_step,
 };
 use sf_gen::{Kinds, design_of};
 use sf_gsrc::{
@@ -14,7 +16,7 @@ use sf_gsrc::{
     nets_name_their_pins, read_blocks, read_nets, read_pl,
 };
 use sf_model::{Design, Outline, Parts, Weights};
-use sf_polish::{Expr, Token, is_normal, push_expr};
+use sf_polish::{Expr, Token, Tokens, is_normal, push_expr};
 use sf_soft_shapes::lists;
 use std::alloc::{AllocError, Global};
 use std::test::Fail;
@@ -146,11 +148,32 @@ fn parts_of(alloc: Global, seed: u64, count: u16) -> Result<Parts, Fail>
     joined(alloc, blocks, nets, Some(places))
 }
 
+/// An outline with room for all plans.
+const WIDE: Outline = Outline {
+    w: 1_048_576,
+    h: 1_048_576,
+};
+
 /// The design of these parts in an outline with room for all of its plans, whose areas count once and whose
 /// wires as often as this, and the first net as often as that.
 pub fn built(alloc: Global, parts: Parts, wire: u16, first: u8) -> Result<Design, Fail>
     requires pins { HasPinsInRange parts }
     requires sizes { HasSizes parts }
+{
+    built_within(alloc, parts, wire, first, WIDE)
+}
+
+/// The same in this outline.
+fn built_within(
+    alloc: Global,
+    parts: Parts,
+    wire: u16,
+    first: u8,
+    outline: Outline,
+) -> Result<Design, Fail>
+    requires pins { HasPinsInRange parts }
+    requires sizes { HasSizes parts }
+    requires outline { IsOutline outline }
 {
     parts.admit(alloc)?;
     let lists = lists(alloc, &parts, 16, false)?;
@@ -158,10 +181,6 @@ pub fn built(alloc: Global, parts: Parts, wire: u16, first: u8) -> Result<Design
     if !net_weights.is_empty() {
         net_weights[0] = first;
     }
-    let outline = Outline {
-        w: 1_048_576,
-        h: 1_048_576,
-    };
     let weights = Weights { area: 1, wire };
     Ok(Design::build(alloc, parts, lists, outline, weights, &net_weights)?)
 }
@@ -214,13 +233,26 @@ fn walks_of_another_program(rt: HostRuntime) -> Result<(), Fail> {
     Ok(())
 }
 
-/// What the walk with this seed finds, made better.
+/// `0 1 * 2 * 3 * 4 * 5 *`
+const CHAIN: [Token; 11] = [
+    Token::Block(0),
+    Token::Block(1),
+    Token::Beside,
+    Token::Block(2),
+    Token::Beside,
+    Token::Block(3),
+    Token::Beside,
+    Token::Block(4),
+    Token::Beside,
+    Token::Block(5),
+    Token::Beside,
+];
+
+/// What the walk with this seed finds, made better from the chain on.
 fn improved(alloc: Global, seed: u64) -> Result<Option<(Expr, u64)>, Fail> {
     let design = generated(alloc, 2, 6, 1)?;
-    match one_start(alloc, &design, &mut Lcg64Xsh32::new(seed, 2), 300)? {
-        Some(found) => Ok(Some(improve(alloc, &design, found, seed, 2000)?)),
-        None => Ok(None),
-    }
+    let found = one_start(alloc, &design, &mut Lcg64Xsh32::new(seed, 2), 300)?;
+    Ok(improve(alloc, &design, &CHAIN, found, seed, 2000)?)
 }
 
 /// What it costs, or more than the walks where it finds nothing.
@@ -246,7 +278,7 @@ fn least_seed(alloc: Global) -> Result<Option<u64>, Fail> {
 /// What four walks in threads find, made better.
 fn improved_in_threads(rt: &(impl Threads + Sync), alloc: Global) -> Result<String, Fail> {
     let design = generated(alloc, 2, 6, 1)?;
-    let found = improved_starts(rt, alloc, &design, 0, 4, 300, 2000)?;
+    let found = improved_starts(rt, alloc, &design, None, 0, 4, 300, 2000)?;
     Ok(found_text(alloc, &found)?)
 }
 
@@ -258,5 +290,53 @@ fn improvements_in_threads(rt: HostRuntime) -> Result<(), Fail> {
     let seed = least_seed(alloc)?.ok_or("no gain")?;
     let wanted = found_text(alloc, &improved(alloc, seed)?)?;
     assert!(rt; improved_in_threads(&rt, alloc)?.as_str() == wanted.as_str());
+    Ok(())
+}
+
+/// What so many walks and this beginning come to over twenty blocks in an outline with a seventh of white space.
+fn found_within(
+    rt: &(impl Threads + Sync),
+    alloc: Global,
+    begin: bool,
+    count: u16,
+    trials: u32,
+) -> Result<bool, Fail> {
+    let outline = Outline { w: 85, h: 85 };
+    let design = built_within(alloc, parts_of(alloc, 1, 20)?, 1, 1, outline)?;
+    let begin = if begin {
+        Some(Beginning {
+            tokens: Tokens::from_vec(chain_of_twenty(alloc)?),
+            plan: None,
+        })
+    } else {
+        None
+    };
+    Ok(improved_starts(rt, alloc, &design, begin, 0, count, 300, trials)?.is_some())
+}
+
+/// The chain of twenty blocks.
+fn chain_of_twenty(alloc: Global) -> Result<Vec<Token>, AllocError> {
+    let mut tokens = vec![in alloc; Token::Block(0)]?;
+    for block in 1..20 {
+        tokens.push(Token::Block(block))?;
+        tokens.push(Token::Beside)?;
+    }
+    Ok(tokens)
+}
+
+/// Within an outline walks find none, and improvements behind them do, also from tokens alone.
+#[test]
+fn improvements_within_an_outline(rt: HostRuntime) -> Result<(), Fail> {
+    let alloc = rt.alloc();
+    for (begin, count, trials, wanted) in [
+        (false, 4, 0, false),
+        (false, 4, 20_000, true),
+        (true, 0, 0, false),
+        (true, 0, 20_000, true),
+        (false, 0, 20_000, false),
+    ] {
+        let found = found_within(&rt, alloc, begin, count, trials)?;
+        assert!(rt; found == wanted, "{begin} {count} {trials}");
+    }
     Ok(())
 }

@@ -27,6 +27,10 @@ const TAKEN: &str = "--outline 1048576x1
 --starts 64 --moves 100000 --start-seed 18446744073709551615 --improve 1000000000
 --starts 0 --improve 0
 --moves 1 --start-seed 0
+--begin p
+--begin=p=q --start-seed 1
+--begin p --improve 0
+--starts 2 --begin p --improve 9
 --bounds standard
 --bounds=strong
 --bounds pair
@@ -73,6 +77,11 @@ const REFUSED: &str = "--outline 1048577x1
 --improve 0
 --improve 1 --moves 1
 --starts 1 --improve 1000000001
+--begin p --improve 1000000001
+--begin
+--begin=
+--begin -p
+--begin p --begin p
 --bounds weak
 --bounds STRONG
 --bounds pairs
@@ -121,6 +130,7 @@ const GOES_NOWHERE: &str = "
 --nodes 1 --moves 1
 --nodes 1 --start-seed 1
 --nodes 1 --improve 1
+--nodes 1 --begin p
 --nodes 1 --bounds weak
 --long";
 
@@ -151,11 +161,14 @@ resume --cert c --cert-out -d --nodes 1 --format gsrc --blocks a
 check --cert c --cert-out d --format gsrc --blocks a
 check --cert c --long=on --format gsrc --blocks a
 check --cert c --starts 1 --format gsrc --blocks a
+check --cert c --begin p --format gsrc --blocks a
 check --cert c --bounds weak --format gsrc --blocks a
 measure --placed p --format gsrc --blocks a --bounds strong
 measure --placed p --format gsrc --blocks a --starts 1
+measure --begin p --format gsrc --blocks a
 shape --format gsrc --blocks a --expr e --bounds strong
 shape --format gsrc --blocks a --expr e --moves 1
+shape --format gsrc --blocks a --expr e --begin p
 measure --placed p --format gsrc --blocks a --rewrite r
 measure --placed p --format gsrc --blocks a --long
 shape --format gsrc --blocks a --expr e --long
@@ -166,6 +179,7 @@ shape --format gsrc --blocks a --expr e --net-weights w
 gen --seed 7 --count 4 --out g --net-weights w
 gen --seed 7 --count 4 --out g --starts 1
 gen --seed 7 --count 4 --out g --start-seed 1
+gen --seed 7 --count 4 --out g --begin p
 gen --seed 7 --count 4 --out g --bounds strong
 gen --seed 7 --count 4 --out g --rewrite r
 gen --seed 7 --seed 7 --count 4 --out g
@@ -238,7 +252,7 @@ fn has_meaning(alloc: Global, texts: &[&str]) -> Result<bool, AllocError> {
 
 /// The options of a search.
 const SEARCH: &str =
-    "--cert d --pl-out e --workers 16 --nodes 1000000000000 --long --bounds strong --starts 8 --moves 10 --start-seed 1 --improve 9";
+    "--cert d --pl-out e --workers 16 --nodes 1000000000000 --long --bounds strong --starts 8 --moves 10 --start-seed 1 --improve 9 --begin f";
 
 /// The options of a check.
 const CHECK: &str = "--cert d --rewrite e --long --bounds strong";
@@ -300,7 +314,7 @@ fn edges(rt: HostRuntime) {
 const VALUES: [&str; 9] = [
     "gen --seed=7 --count 004 --out g",
     "plan --cert=x=y --format yal --yal a",
-    "plan --cert c --starts 64 --format yal --yal a",
+    "plan --cert c --starts 64 --begin p --format yal --yal a",
     "plan --cert c --starts 3 --moves 00100000 --start-seed 18446744073709551615 --improve 0 --format yal --yal a",
     "resume --cert c --cert-out d --long --nodes 0000004000001 --format yal --yal a",
     "shape --expr e --outline .50x007.25 --per-unit 0100 --format gsrc --blocks a --nets b --pl c",
@@ -320,6 +334,7 @@ fn is_plan_alone(read: &PlanWords<'_>) -> bool {
         && (read.design.scale.per_unit, read.design.shapes) == (1, 16)
         && (read.design.width, read.design.height) == (1_048_576, 1_048_576)
         && has_starts(read.starts, 0, 1000, 0, None)
+        && read.begin.is_none()
 }
 
 /// Whether the walks have these values.
@@ -338,7 +353,9 @@ fn has_values(read: &CommandWords<'_>, place: usize) -> bool {
                 && read.out == "g"
         }
         (1, CommandWords::Plan(read)) => is_plan_alone(read),
-        (2, CommandWords::Plan(read)) => has_starts(read.starts, 64, 1000, 0, None),
+        (2, CommandWords::Plan(read)) => {
+            has_starts(read.starts, 64, 1000, 0, None) && read.begin == Some("p")
+        }
         (3, CommandWords::Plan(read)) => has_starts(read.starts, 3, 100_000, u64::MAX, Some(0)),
         (4, CommandWords::Resume(read)) => {
             read.cert == "c"

@@ -21,7 +21,7 @@ pub use Rattle.sf_words.specs.Table.{Text}
 unfoldable pub use Rattle.sf_words.specs.Table.{is_flag, key_text, keys_of, mode_text, modes}
 pub use Rattle.sf_words.specs.Words.{AreOptions, HasForm, IsNew, IsShaped, IsValue, Token, alone, attached, before, key_of, key_word, spaced, value_of, words_of}
 pub use Rattle.sf_words.specs.declared.options.Key.{Key}
-pub use Rattle.sf_words.specs.declared.options.Key.TheVariants.{AreaWeight, Blocks, Bounds, Cert, CertOut, Count, Expr, Fixed, Format, Improve, Kinds, Long, Moves, NetWeights, Nets, Nodes, Out, Outline, PerUnit, Pl, PlOut, Placed, Rewrite, Seed, Shapes, StartSeed, Starts, WireWeight, Workers, Yal}
+pub use Rattle.sf_words.specs.declared.options.Key.TheVariants.{AreaWeight, Begin, Blocks, Bounds, Cert, CertOut, Count, Expr, Fixed, Format, Improve, Kinds, Long, Moves, NetWeights, Nets, Nodes, Out, Outline, PerUnit, Pl, PlOut, Placed, Rewrite, Seed, Shapes, StartSeed, Starts, WireWeight, Workers, Yal}
 pub use Rattle.sf_words.specs.declared.options.Mode.{Mode}
 pub use Rattle.sf_words.specs.declared.options.Mode.TheVariants.{Plan}
 pub use Rattle.std.proofs.Math.Bool.{or-false}

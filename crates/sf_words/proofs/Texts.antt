@@ -1,11 +1,11 @@
 -- The texts of the options tell them apart.
 use Rattle.std.proofs.Common.{◌≡◌, ◌≢◌, ℕ, ◌<◌, Bool, true, false, cond, ◌==◌, List, [], ◌∷◌, ◌++◌, length, get_or, Option, Some, None, refl, sym, ap, ◌∙◌, arith, suc, zero}
-use Rattle.sf_words.proofs.Common.{bytes_eq, append-nil, Key, Format, Blocks, Nets, Pl, Yal, PerUnit, Fixed, Shapes, Outline, AreaWeight, WireWeight, NetWeights, Cert, CertOut, PlOut, Rewrite, Workers, Nodes, Long, Starts, Moves, StartSeed, Improve, Bounds, Placed, Expr, Seed, Count, Kinds, Out, Mode, Plan, Text, key_text, mode_text, modes, list_all, clap_on_literals}
+use Rattle.sf_words.proofs.Common.{bytes_eq, append-nil, Key, Format, Blocks, Nets, Pl, Yal, PerUnit, Fixed, Shapes, Outline, AreaWeight, WireWeight, NetWeights, Cert, CertOut, PlOut, Rewrite, Workers, Nodes, Long, Starts, Moves, StartSeed, Improve, Begin, Bounds, Placed, Expr, Seed, Count, Kinds, Out, Mode, Plan, Text, key_text, mode_text, modes, list_all, clap_on_literals}
 use Rattle.clap.specs.Lexer.{long_of}
 
 -- all options
 abbrev pub all_keys : List Key
-all_keys = Format ∷ Blocks ∷ Nets ∷ Pl ∷ Yal ∷ PerUnit ∷ Fixed ∷ Shapes ∷ Outline ∷ AreaWeight ∷ WireWeight ∷ NetWeights ∷ Cert ∷ CertOut ∷ PlOut ∷ Rewrite ∷ Workers ∷ Nodes ∷ Long ∷ Starts ∷ Moves ∷ StartSeed ∷ Improve ∷ Bounds ∷ Placed ∷ Expr ∷ Seed ∷ Count ∷ Kinds ∷ Out ∷ []
+all_keys = Format ∷ Blocks ∷ Nets ∷ Pl ∷ Yal ∷ PerUnit ∷ Fixed ∷ Shapes ∷ Outline ∷ AreaWeight ∷ WireWeight ∷ NetWeights ∷ Cert ∷ CertOut ∷ PlOut ∷ Rewrite ∷ Workers ∷ Nodes ∷ Long ∷ Starts ∷ Moves ∷ StartSeed ∷ Improve ∷ Begin ∷ Bounds ∷ Placed ∷ Expr ∷ Seed ∷ Count ∷ Kinds ∷ Out ∷ []
 
 -- the first of these options that has this text as its name
 abbrev pub first_named : List Key → Text → Option Key

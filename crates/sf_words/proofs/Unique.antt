@@ -108,8 +108,9 @@ plan_unique v a b g h =
     let long = g.is_long ∙ sym h.is_long in
     let nodes = nodes_unique _ _ _ _ _ long g.nodes h.nodes in
     let starts = starts_unique v _ _ g.starts h.starts in
+    let begin = sym g.begin ∙ h.begin in
     let bounds = bounds_unique _ _ _ g.bounds h.bounds in
-    λ i. record { design = design i; weights = weights i; cert = cert i; pl_out = pl_out i; workers = workers i; nodes = nodes i; is_long = long i; starts = starts i; bounds = bounds i }
+    λ i. record { design = design i; weights = weights i; cert = cert i; pl_out = pl_out i; workers = workers i; nodes = nodes i; is_long = long i; starts = starts i; begin = begin i; bounds = bounds i }
 
 -- the options say at most one `check`
 check_unique : (v : Values) (a b : CheckOptions) → CheckSays v a → CheckSays v b → a ≡ b

@@ -4,7 +4,7 @@ use Rattle.std.specs.Str.{bytes_eq}
 use Rattle.sf_words.specs.declared.options.Mode.{Mode}
 use Rattle.sf_words.specs.declared.options.Mode.TheVariants.{Plan, Check, Resume, Measure, Shape, Gen}
 use Rattle.sf_words.specs.declared.options.Key.{Key}
-use Rattle.sf_words.specs.declared.options.Key.TheVariants.{Format, Blocks, Nets, Pl, Yal, PerUnit, Fixed, Shapes, Outline, AreaWeight, WireWeight, NetWeights, Cert, CertOut, PlOut, Rewrite, Workers, Nodes, Long, Starts, Moves, StartSeed, Improve, Bounds, Placed, Expr, Seed, Count, Kinds as KindsKey, Out}
+use Rattle.sf_words.specs.declared.options.Key.TheVariants.{Format, Blocks, Nets, Pl, Yal, PerUnit, Fixed, Shapes, Outline, AreaWeight, WireWeight, NetWeights, Cert, CertOut, PlOut, Rewrite, Workers, Nodes, Long, Starts, Moves, StartSeed, Improve, Begin, Bounds, Placed, Expr, Seed, Count, Kinds as KindsKey, Out}
 use Rattle.sf_words.specs.Table.{Text, key_text}
 use Rattle.sf_words.specs.Words.{Token, key_of, value_of, HasForm}
 use Rattle.sf_words.specs.Numbers.{SaysNumber, SaysIfGiven, SaysNodes, improve_range}
@@ -73,13 +73,13 @@ pub record StartOptions : Type 0 where
   pub seed : ℕ
   pub improve : Option ℕ
 
--- what the options of the walks say; where none are asked for, none are to be made better
+-- what the options of the walks say; where none are asked for, and no placement is given to begin with, there is nothing to be made better
 pub record StartsSay (v : Values) (o : StartOptions) : Type 0 where
   pub count : SaysNumber Starts (v Starts) o.count
   pub moves : SaysNumber Moves (v Moves) o.moves
   pub seed : SaysNumber StartSeed (v StartSeed) o.seed
   pub improve : SaysIfGiven improve_range (v Improve) o.improve
-  pub asked : v Starts ≡ None → v Improve ≡ None
+  pub asked : v Starts ≡ None → v Begin ≡ None → v Improve ≡ None
 
 -- how a bound is written
 abbrev pub bounds_text : BoundsChoice → Text
@@ -94,7 +94,7 @@ abbrev pub BoundsSay : Option Text → BoundsChoice → Type 0
 BoundsSay None bounds = bounds ≡ Standard
 BoundsSay (Some text) bounds = text ≡ bounds_text bounds
 
--- the options of `plan`; a long search may have a greater budget
+-- the options of `plan`; a long search may have a greater budget, and one may begin with the placement of a file
 pub record PlanOptions : Type 0 where
   pub design : DesignOptions
   pub weights : WeightOptions
@@ -104,6 +104,7 @@ pub record PlanOptions : Type 0 where
   pub nodes : Option ℕ
   pub is_long : Bool
   pub starts : StartOptions
+  pub begin : Option Text
   pub bounds : BoundsChoice
 
 -- what the options of `plan` say
@@ -116,6 +117,7 @@ pub record PlanSays (v : Values) (o : PlanOptions) : Type 0 where
   pub nodes : SaysNodes o.is_long (v Nodes) o.nodes
   pub is_long : o.is_long ≡ is_some (v Long)
   pub starts : StartsSay v o.starts
+  pub begin : v Begin ≡ o.begin
   pub bounds : BoundsSay (v Bounds) o.bounds
 
 -- the options of `check`; the certificate of a long search may have a longer text

@@ -49,7 +49,7 @@ starts_seen o = record { count = o.count; moves = o.moves; seed = o.seed; improv
 
 -- the options of `plan`
 abbrev pub plan_seen : PlanWords → PlanOptions
-plan_seen o = record { design = design_seen o.design; weights = weights_seen o.weights; cert = o.cert.now; pl_out = text_of o.pl_out; workers = o.workers; nodes = o.nodes; is_long = o.is_long; starts = starts_seen o.starts; bounds = o.bounds }
+plan_seen o = record { design = design_seen o.design; weights = weights_seen o.weights; cert = o.cert.now; pl_out = text_of o.pl_out; workers = o.workers; nodes = o.nodes; is_long = o.is_long; starts = starts_seen o.starts; begin = text_of o.begin; bounds = o.bounds }
 
 -- the options of `check`
 abbrev pub check_seen : CheckWords → CheckOptions

@@ -3,7 +3,7 @@ use Rattle.std.specs.Prelude.{ℕ, Bool, true, false, List, [], ◌∷◌, ◌++
 use Rattle.sf_words.specs.declared.options.Mode.{Mode}
 use Rattle.sf_words.specs.declared.options.Mode.TheVariants.{Plan, Check, Resume, Measure, Shape, Gen}
 use Rattle.sf_words.specs.declared.options.Key.{Key}
-use Rattle.sf_words.specs.declared.options.Key.TheVariants.{Format, Blocks, Nets, Pl, Yal, PerUnit, Fixed, Shapes, Outline, AreaWeight, WireWeight, NetWeights, Cert, CertOut, PlOut, Rewrite, Workers, Nodes, Long, Starts, Moves, StartSeed, Improve, Bounds, Placed, Expr, Seed, Count, Kinds, Out}
+use Rattle.sf_words.specs.declared.options.Key.TheVariants.{Format, Blocks, Nets, Pl, Yal, PerUnit, Fixed, Shapes, Outline, AreaWeight, WireWeight, NetWeights, Cert, CertOut, PlOut, Rewrite, Workers, Nodes, Long, Starts, Moves, StartSeed, Improve, Begin, Bounds, Placed, Expr, Seed, Count, Kinds, Out}
 
 -- a text is the list of its bytes
 abbrev pub Text : Type 0
@@ -47,6 +47,7 @@ key_text Starts = codes "starts"
 key_text Moves = codes "moves"
 key_text StartSeed = codes "start-seed"
 key_text Improve = codes "improve"
+key_text Begin = codes "begin"
 key_text Bounds = codes "bounds"
 key_text Placed = codes "placed"
 key_text Expr = codes "expr"
@@ -71,7 +72,7 @@ weight_keys = AreaWeight ∷ WireWeight ∷ NetWeights ∷ []
 
 -- the options of each command
 unfoldable pub keys_of : Mode → List Key
-keys_of Plan = design_keys ++ (weight_keys ++ (Cert ∷ PlOut ∷ Workers ∷ Nodes ∷ Long ∷ Starts ∷ Moves ∷ StartSeed ∷ Improve ∷ Bounds ∷ []))
+keys_of Plan = design_keys ++ (weight_keys ++ (Cert ∷ PlOut ∷ Workers ∷ Nodes ∷ Long ∷ Starts ∷ Moves ∷ StartSeed ∷ Improve ∷ Begin ∷ Bounds ∷ []))
 keys_of Check = design_keys ++ (weight_keys ++ (Cert ∷ Rewrite ∷ Long ∷ Bounds ∷ []))
 keys_of Resume = design_keys ++ (weight_keys ++ (Cert ∷ CertOut ∷ PlOut ∷ Workers ∷ Nodes ∷ Long ∷ Bounds ∷ []))
 keys_of Measure = design_keys ++ (weight_keys ++ (Placed ∷ []))

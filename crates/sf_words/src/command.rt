@@ -98,6 +98,8 @@ pub struct PlanWords<'a> {
     /// Whether the limit by the number of blocks is lifted.
     pub is_long: bool,
     pub starts: StartWords,
+    /// The file of a placement that the search begins with as well.
+    pub begin: Option<&'a str>,
     pub bounds: BoundsChoice,
     ghost workers_low: { 1 ≤ workers },
     ghost workers_high: { workers ≤ 16 },

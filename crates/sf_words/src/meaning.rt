@@ -110,7 +110,8 @@ fn read_weights<'a>(texts: &Parsed<'_, 'a>) -> Option<WeightWords<'a>>
 fn read_starts(texts: &Parsed<'_, '_>) -> Option<StartWords>
     ensures { IsReading (StartsSay (texts_of texts.now)) starts_seen result }
 {
-    if texts.text(Key::Starts).is_none() && texts.text(Key::Improve).is_some() {
+    let is_asked = texts.text(Key::Starts).is_some() || texts.text(Key::Begin).is_some();
+    if !is_asked && texts.text(Key::Improve).is_some() {
         return None;
     }
     Some(StartWords {
@@ -160,6 +161,7 @@ fn read_plan<'a>(texts: &Parsed<'_, 'a>) -> Option<PlanWords<'a>>
         nodes: nodes(is_long, texts.text(Key::Nodes))?,
         is_long,
         starts: read_starts(texts)?,
+        begin: texts.text(Key::Begin),
         bounds: read_bounds(texts.text(Key::Bounds))?,
     })
 }

@@ -41,6 +41,7 @@ pub enum Key {
     Moves,
     StartSeed,
     Improve,
+    Begin,
     Bounds,
     Placed,
     Expr,
@@ -110,6 +111,7 @@ impl Mode {
                     Key::Moves,
                     Key::StartSeed,
                     Key::Improve,
+                    Key::Begin,
                     Key::Bounds
                 ],
             ),
@@ -183,6 +185,7 @@ impl Key {
             Key::Moves => "moves",
             Key::StartSeed => "start-seed",
             Key::Improve => "improve",
+            Key::Begin => "begin",
             Key::Bounds => "bounds",
             Key::Placed => "placed",
             Key::Expr => "expr",

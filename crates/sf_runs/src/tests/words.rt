@@ -69,6 +69,14 @@ pub const MEANINGLESS: &[Row] = &[
         ..UNPLANNED
     },
     Row {
+        options: "--begin",
+        ..UNPLANNED
+    },
+    Row {
+        command: "measure --format gsrc --blocks a.blocks --begin a.out",
+        ..USAGE
+    },
+    Row {
         command: "check --format gsrc --blocks a.blocks --cert a.cert --rewrite",
         ..USAGE
     },

@@ -8,10 +8,10 @@ returns-in_err-spots-clause-answer g c =
     let o = measure_seen c.args.words.now in
     let design = c.in_ok-design.design in
     let stop = c.in_err-spots.field-0.0 in
-    let spots : Stops stop (λ why. SpotsRead held o design (Err why)) =
-    subst (λ (h : Option Contents). Stops stop (λ why. SpotsRead h o design (Err why))) c.in_ok-design.ensures.shelf.0.unchanged c.in_err-spots.ensures.spots in
+    let spots : Stops stop (λ why. SpotsRead held o.design.per_unit o.placed design (Err why)) =
+    subst (λ (h : Option Contents). Stops stop (λ why. SpotsRead h o.design.per_unit o.placed design (Err why))) c.in_ok-design.ensures.shelf.0.unchanged c.in_err-spots.ensures.spots in
     let p = err_from_is_err_and c.from_residual-in_err-spots.result c.from_residual-in_err-spots.ensures.1 in
-    rw (p.1, p.2) (stops-map (λ why. SpotsRead held o design (Err why)) (λ why. MeasureRead held o (Err why)) (λ why q. inl (design, c.in_ok-design.ensures.design, q)) stop spots)
+    rw (p.1, p.2) (stops-map (λ why. SpotsRead held o.design.per_unit o.placed design (Err why)) (λ why. MeasureRead held o (Err why)) (λ why q. inl (design, c.in_ok-design.ensures.design, q)) stop spots)
 
 pub returns-clause-answer : goal.returns-clause-answer
 returns-clause-answer g c =
@@ -20,8 +20,8 @@ returns-clause-answer g c =
     let design = c.in_ok-design.design in
     let spots = c.in_ok-spots.spots.items in
     let verdict = c.check_spots-verdict.result in
-    let read : SpotsRead held o design (Ok spots) =
-    subst (λ (h : Option Contents). SpotsRead h o design (Ok spots)) c.in_ok-design.ensures.shelf.0.unchanged c.in_ok-spots.ensures.spots in (
+    let read : SpotsRead held o.design.per_unit o.placed design (Ok spots) =
+    subst (λ (h : Option Contents). SpotsRead h o.design.per_unit o.placed design (Ok spots)) c.in_ok-design.ensures.shelf.0.unchanged c.in_ok-spots.ensures.spots in (
       record {
         design = design;
         spots = spots;

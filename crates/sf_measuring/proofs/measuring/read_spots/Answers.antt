@@ -6,7 +6,7 @@ use Rattle.sf_measuring.proofs.measuring.read_spots.Goals as goal
 pub place_blocks-requires-clause-near : goal.place_blocks-requires-clause-near
 place_blocks-requires-clause-near g c =
     let near : All HasNearPlace c.in_ok-file.file.places =
-    read_near (g.S.Shelf.seen c.args.shelf.now).holds (codes "placed") c.args.words.now.design.scale.per_unit c.args.words.now.placed.now c.in_ok-file.file c.in_ok-file.ensures.places in
+    read_near (g.S.Shelf.seen c.args.shelf.now).holds (codes "placed") c.args.scale.per_unit c.args.name.now c.in_ok-file.file c.in_ok-file.ensures.places in
     subst (λ (lines : List Place). All HasNearPlace lines) (sym c.as_slice-2.ensures) near
 
 pub returns-clause-shelf : goal.returns-clause-shelf

@@ -1,9 +1,11 @@
-//! Moves over slicing trees: nodes change places, a joint turns, a node is put elsewhere.
+//! Moves over slicing trees: nodes change places, blocks of like size do, a joint turns, a node is put elsewhere.
 
+use crate::likes::by_size;
 use crate::links::{LinkedTree, Links, NOWHERE};
 use crate::words::Words;
 use sf_curves::Direction;
-use std::alloc::AllocError as NoMemory;
+use sf_model::Design;
+use std::alloc::{AllocError as NoMemory, Global};
 
 /// The lowest nodes above which a tree was changed, of which the second may be none.
 #[derive(Clone, Copy)]
@@ -93,33 +95,64 @@ fn reinsert(
     }))
 }
 
-/// One move of a tree of these blocks, of which there are two at least: of 11 moves 3 exchange two blocks, 1
-/// exchanges two nodes, 2 turn a joint, and 5 put a node elsewhere, which three times of four is a block.
-/// None where the words name no move.
-pub fn change(
-    tree: &mut LinkedTree,
+/// How far blocks stand from each other at most in the order of sizes that are of like size.
+const NEAR: u16 = 8;
+
+/// What moves draw from: how many blocks there are, and their order by size.
+#[derive(Drop)]
+pub struct Moves {
     blocks: u16,
-    words: &mut Words,
-) -> Result<Option<Changed>, NoMemory> {
-    if blocks < 2 || blocks > 320 {
-        return Ok(None);
+    by_size: Vec<u16>,
+}
+
+impl Moves {
+    /// The moves over trees of the blocks of a design.
+    pub fn new(alloc: Global, design: &Design) -> Result<Moves, NoMemory> {
+        Ok(Moves {
+            blocks: design.block_count(),
+            by_size: by_size(alloc, design)?,
+        })
     }
-    let nodes = 2 * blocks - 1;
-    match words.below(11) {
-        0..3 => exchange(tree, words.below(blocks), words.below(blocks)),
-        3 => exchange(tree, words.below(nodes), words.below(nodes)),
-        4..6 => turn(tree, blocks + words.below(blocks - 1)),
-        _ => {
-            let any = if words.below(4) < 3 { blocks } else { nodes };
-            let node = words.below(any);
-            let beside = words.below(nodes);
-            let sides = words.below(4);
-            let direction = if sides < 2 {
-                Direction::Beside
-            } else {
-                Direction::Above
-            };
-            reinsert(tree, node, beside, direction, sides % 2 == 0)
+
+    /// One move of a tree of these blocks, of which there are two at least: of 15 moves 2 exchange two blocks, 1
+    /// exchanges two nodes, 2 turn a joint, 5 put a node elsewhere, which three times of four is a block, and 5
+    /// exchange two blocks of like size. None where the words name no move.
+    pub fn change(
+        &self,
+        tree: &mut LinkedTree,
+        words: &mut Words,
+    ) -> Result<Option<Changed>, NoMemory> {
+        let blocks = self.blocks;
+        if blocks < 2 || blocks > 320 {
+            return Ok(None);
+        }
+        let nodes = 2 * blocks - 1;
+        match words.below(15) {
+            0..2 => exchange(tree, words.below(blocks), words.below(blocks)),
+            2 => exchange(tree, words.below(nodes), words.below(nodes)),
+            3..5 => turn(tree, blocks + words.below(blocks - 1)),
+            5..10 => {
+                let any = if words.below(4) < 3 { blocks } else { nodes };
+                let node = words.below(any);
+                let beside = words.below(nodes);
+                let sides = words.below(4);
+                let direction = if sides < 2 {
+                    Direction::Beside
+                } else {
+                    Direction::Above
+                };
+                reinsert(tree, node, beside, direction, sides % 2 == 0)
+            }
+            _ => {
+                let place = words.below(blocks);
+                let other = place + 1 + words.below(NEAR);
+                let one = self.by_size.get(usize::from(place));
+                let other = self.by_size.get(usize::from(other));
+                match (one, other) {
+                    (Some(one), Some(other)) => exchange(tree, *one, *other),
+                    _ => Ok(None),
+                }
+            }
         }
     }
 }
