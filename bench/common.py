@@ -130,10 +130,11 @@ def run_all(folder, scripts, words):
     if lacking:
         sys.exit("not built: %s; ./floorplan builds floorplan, and ./floorbatch floorbatch" % " ".join(lacking))
     outputs, well = tempfile.mkdtemp(), 0
-    for name, count in scripts.items():
+    for call, count in scripts.items():
+        name, *more = call.split()
         begun = time.monotonic()
         with open(os.path.join(outputs, name + ".txt"), "w+") as out:
-            done = subprocess.run([sys.executable, os.path.join(BENCH, folder, name + ".py"), *programs[:count]], stdin=subprocess.DEVNULL, stdout=out, stderr=subprocess.STDOUT)
+            done = subprocess.run([sys.executable, os.path.join(BENCH, folder, name + ".py"), *programs[:count], *more], stdin=subprocess.DEVNULL, stdout=out, stderr=subprocess.STDOUT)
             out.seek(0)
             lines = [line for line in out.read().splitlines() if line.strip()] or [""]
         marks = sum(len(re.findall(r" !(?=[ |,)]|$)", line)) for line in lines)

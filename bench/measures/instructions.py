@@ -6,6 +6,9 @@ leaves, each planned, and its certificate checked, under `valgrind --tool=callgr
 the machine does. Printed are, per case: the instructions of the whole run of `plan`, the decided subproblems, and the
 instructions of one decision of `plan`, of `check`, and of `check` on the same certificate in version 1, whose leaves are
 judged by the full bound; reading and writing included.
+
+Behind it stand the instructions of one trial of the improvement behind a walk, of designs that `gen` makes: those of a run with 200,000
+trials less those of one with 50,000, divided by the difference.
 """
 import os
 import re
@@ -15,7 +18,7 @@ import tempfile
 
 sys.dont_write_bytecode = True
 sys.path.append(os.path.dirname(os.path.dirname(os.path.abspath(__file__))))
-from common import write_design
+from common import started_words, write_design
 
 #        name       blocks  nets   budget  area weight
 CASES = [
@@ -29,6 +32,10 @@ CASES = [
     ("wire-6, area weight 20", 6, 12, 20000, 20),
     ("wire-20, area weight 200", 20, 40, 10000, 200),
 ]
+
+#         blocks, wire weight
+TRIALS = [(50, 0), (100, 0), (300, 0), (50, 1), (100, 1), (300, 1)]
+FEW, MANY = 50000, 200000
 
 
 def counted(program, words):
@@ -52,6 +59,13 @@ def checked(program, name, words):
     return instructions
 
 
+def trial(program, blocks, wire):
+    """How many instructions one trial of the improvement takes."""
+    subprocess.run([program, "gen", "--seed", "1", "--count", str(blocks), "--out", "s", "--nodes", "1"], stdout=subprocess.DEVNULL)
+    few, many = (counted(program, started_words(program, wire, 1, 1000, trials)[1:] + ["--nodes", "1"])[1] for trials in (FEW, MANY))
+    return (many - few) // (MANY - FEW)
+
+
 def main():
     program = os.path.abspath(sys.argv[1])
     os.chdir(sys.argv[2] if len(sys.argv) > 2 else tempfile.mkdtemp())
@@ -70,6 +84,10 @@ def main():
             text.write(full)
         by_full = checked(program, name, words)
         print("| %s | %d | %d | %d | %d | %d |" % (name, plan, decided, plan // decided, by_parts // decided, by_full // decided), flush=True)
+    print("\n| Blocks | wire weight | instructions per trial of the improvement |")
+    print("|---|---|---|")
+    for blocks, wire in TRIALS:
+        print("| %d | %d | %d |" % (blocks, wire, trial(program, blocks, wire)), flush=True)
 
 
 main()

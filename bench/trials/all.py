@@ -22,6 +22,7 @@ SCRIPTS = {
     "legs": 1,
     "starts": 1,
     "begin": 1,
+    "outlines": 1,
     "batch": 2,
     "strong": 1,
     "faults": 1,
