@@ -2,7 +2,8 @@
 
 use crate::edits::Changed;
 use crate::links::{LinkedTree, NOWHERE};
-use sf_curves::{Curve, Direction, Point};
+use crate::sizes::Sizes;
+use sf_curves::Curve;
 use sf_model::{Design, Outline};
 use std::alloc::{AllocError as NoMemory, Global};
 use std::mem;
@@ -13,14 +14,13 @@ const UNCUT: Outline = Outline {
     h: u32::MAX,
 };
 
-/// The curve of each node, those that were there before the last move, and lists for others to be made in. A
-/// node is marked where it lies on the way from a change to the top.
+/// The curve of each node, and the one that it had before the last move, where that changed it. A node is marked
+/// where it lies on the way from a change to the top.
 #[derive(Drop)]
 pub struct Curves {
-    alloc: Global,
-    of_nodes: Vec<Curve>,
-    replaced: Vec<(u16, Curve)>,
-    lists: Vec<Vec<Point>>,
+    of_nodes: Vec<Sizes>,
+    old: Vec<Sizes>,
+    changed: Vec<u16>,
     marks: Vec<u32>,
     mark: u32,
 }
@@ -28,33 +28,38 @@ pub struct Curves {
 impl Curves {
     /// The curves of a tree of the design's blocks, whose joints stand behind their parts.
     pub fn new(alloc: Global, design: &Design, tree: &LinkedTree) -> Result<Curves, NoMemory> {
-        let mut of_nodes = Vec::new(alloc);
-        for block in design.blocks.as_slice() {
-            let shapes = block.shapes.as_slice();
-            of_nodes.push(Curve::of_shapes_in(Vec::new(alloc), shapes, UNCUT)?)?;
-        }
         let mut curves = Curves {
-            alloc,
-            of_nodes,
-            replaced: Vec::new(alloc),
-            lists: Vec::new(alloc),
+            of_nodes: Vec::new(alloc),
+            old: Vec::new(alloc),
+            changed: Vec::new(alloc),
             marks: vec![in alloc; 0; tree.len()]?,
             mark: 0,
         };
-        for node in design.block_count()..NOWHERE {
-            if usize::from(node) >= tree.len() {
+        for block in design.blocks.as_slice() {
+            let shapes = block.shapes.as_slice();
+            let curve = Curve::of_shapes_in(Vec::new(alloc), shapes, UNCUT)?;
+            curves.push(alloc, Sizes::of_points(curve.into_points()))?;
+        }
+        for joint in design.block_count()..NOWHERE {
+            if usize::from(joint) >= tree.len() {
                 break;
             }
-            let none = Curve::of_shapes_in(Vec::new(alloc), &[], UNCUT)?;
-            curves.of_nodes.push(none)?;
-            curves.renew(tree, node)?;
+            curves.push(alloc, Sizes::new(alloc))?;
+            curves.renew(tree, joint)?;
         }
-        curves.keep()?;
+        curves.keep();
         Ok(curves)
     }
 
+    /// Adds a node with its curve.
+    fn push(&mut self, alloc: Global, sizes: Sizes) -> Result<(), NoMemory> {
+        self.of_nodes.push(sizes)?;
+        self.old.push(Sizes::new(alloc))?;
+        Ok(())
+    }
+
     /// The curve of a node.
-    pub fn of(&self, node: u16) -> Option<&Curve> {
+    pub fn of(&self, node: u16) -> Option<&Sizes> {
         self.of_nodes.get(usize::from(node))
     }
 
@@ -73,125 +78,78 @@ impl Curves {
         }
     }
 
-    /// Marks nodes from this one on upward, up to one that is marked. That one, or none.
-    fn mark_up(&mut self, tree: &LinkedTree, from: u16) -> u16 {
-        let mut node = from;
-        for _step in 0..tree.len() {
-            if node == NOWHERE || self.is_marked(node) {
-                break;
-            }
-            self.mark(node);
-            node = tree.at(node).parent;
-        }
-        node
-    }
-
-    /// Makes the curve of a joint anew. Whether it is another one than before.
-    fn renew(&mut self, tree: &LinkedTree, node: u16) -> Result<bool, NoMemory> {
-        let links = tree.at(node);
-        let list = match self.lists.pop() {
-            Some(list) => list,
-            None => Vec::new(self.alloc),
+    /// Makes the curve of a joint anew.
+    #[inline(always)]
+    fn renew(&mut self, tree: &LinkedTree, joint: u16) -> Result<(), NoMemory> {
+        let links = tree.at(joint);
+        let left = self.of_nodes.get(usize::from(links.left));
+        let right = self.of_nodes.get(usize::from(links.right));
+        let (Some(left), Some(right)) = (left, right) else {
+            return Ok(());
         };
-        let (Some(left), Some(right)) = (self.of(links.left), self.of(links.right)) else {
-            return Ok(false);
+        let Some(sizes) = self.old.get_mut(usize::from(joint)) else {
+            return Ok(());
         };
-        let curve = match links.direction {
-            Direction::Beside => left.joined_in(list, right, Direction::Beside, UNCUT)?,
-            Direction::Above => left.joined_in(list, right, Direction::Above, UNCUT)?,
-        };
-        let Some(place) = self.of_nodes.get_mut(usize::from(node)) else {
-            return Ok(false);
-        };
-        if place.points() == curve.points() {
-            self.lists.push(curve.into_points())?;
-            return Ok(false);
+        sizes.join(left, right, links.direction)?;
+        if let Some(place) = self.of_nodes.get_mut(usize::from(joint)) {
+            mem::swap(place, sizes);
         }
-        let old = mem::replace(place, curve);
-        self.replaced.push((node, old))?;
-        Ok(true)
-    }
-
-    /// Makes the curves anew that a change may make others: those from its nodes on upward, the lower ones first,
-    /// up to one that comes out as it was. The first node may have come elsewhere, so the node above it is made
-    /// anew in any case, and so is each of both nodes. All nodes above these are marked.
-    pub fn renew_up(&mut self, tree: &LinkedTree, changed: Changed) -> Result<(), NoMemory> {
-        self.mark = self.mark.wrapping_add(1);
-        self.mark_up(tree, changed.first);
-        let (meet, differs) = self.renew_second(tree, changed.second)?;
-        self.renew_first(tree, changed.first, meet, !differs)
-    }
-
-    /// The same on the way from the second node on up to the way from the first. Where both meet, and whether
-    /// what stands there is to be made anew.
-    fn renew_second(&mut self, tree: &LinkedTree, second: u16) -> Result<(u16, bool), NoMemory> {
-        let mut node = second;
-        let mut differs = second != NOWHERE;
-        for _step in 0..tree.len() {
-            if node == NOWHERE || self.is_marked(node) || !differs {
-                break;
-            }
-            self.mark(node);
-            differs = self.renew(tree, node)?;
-            node = tree.at(node).parent;
-        }
-        let meet = self.mark_up(tree, node);
-        Ok((meet, differs))
-    }
-
-    /// The same on the way from the first node on. Where a curve comes out as it was before the ways have met,
-    /// it goes on there.
-    fn renew_first(
-        &mut self,
-        tree: &LinkedTree,
-        first: u16,
-        meet: u16,
-        met: bool,
-    ) -> Result<(), NoMemory> {
-        let mut node = first;
-        let mut met = met;
-        let mut rests = false;
-        for _step in 0..tree.len() {
-            if node == NOWHERE {
-                break;
-            }
-            if node == meet {
-                met = true;
-                rests = false;
-            }
-            if !rests && !self.renew(tree, node)? && node != first {
-                if met {
-                    break;
-                }
-                rests = true;
-            }
-            node = tree.at(node).parent;
-        }
+        self.changed.push(joint)?;
         Ok(())
+    }
+
+    /// Makes the curves of all joints from two of them on upward anew, the lower ones first, and marks these. Where
+    /// both ways meet, or nowhere.
+    pub fn renew_up(&mut self, tree: &LinkedTree, changed: Changed) -> Result<u16, NoMemory> {
+        self.mark = self.mark.wrapping_add(1);
+        let mut joint = changed.first;
+        for _step in 0..tree.len() {
+            if joint == NOWHERE {
+                break;
+            }
+            self.mark(joint);
+            joint = tree.at(joint).parent;
+        }
+        let meet = self.renew_second(tree, changed.second)?;
+        joint = changed.first;
+        for _step in 0..tree.len() {
+            if joint == NOWHERE {
+                break;
+            }
+            self.renew(tree, joint)?;
+            joint = tree.at(joint).parent;
+        }
+        Ok(meet)
+    }
+
+    /// The same on the way from the second joint on, up to one that is marked. That one, or nowhere.
+    fn renew_second(&mut self, tree: &LinkedTree, second: u16) -> Result<u16, NoMemory> {
+        let mut joint = second;
+        for _step in 0..tree.len() {
+            if joint == NOWHERE || self.is_marked(joint) {
+                break;
+            }
+            self.mark(joint);
+            self.renew(tree, joint)?;
+            joint = tree.at(joint).parent;
+        }
+        Ok(joint)
     }
 
     /// Lets all stand as it is now.
-    pub fn keep(&mut self) -> Result<(), NoMemory> {
-        for _change in 0..self.replaced.len() {
-            let Some((_, curve)) = self.replaced.pop() else {
-                break;
-            };
-            self.lists.push(curve.into_points())?;
-        }
-        Ok(())
+    pub fn keep(&mut self) {
+        self.changed.clear();
     }
 
     /// Makes all what it was when it was kept last.
-    pub fn restore(&mut self) -> Result<(), NoMemory> {
-        for _change in 0..self.replaced.len() {
-            let Some((node, curve)) = self.replaced.pop() else {
-                break;
-            };
-            if let Some(place) = self.of_nodes.get_mut(usize::from(node)) {
-                let tried = mem::replace(place, curve);
-                self.lists.push(tried.into_points())?;
+    pub fn restore(&mut self) {
+        for joint in &self.changed {
+            let place = self.of_nodes.get_mut(usize::from(*joint));
+            let old = self.old.get_mut(usize::from(*joint));
+            if let (Some(place), Some(old)) = (place, old) {
+                mem::swap(place, old);
             }
         }
-        Ok(())
+        self.changed.clear();
     }
 }

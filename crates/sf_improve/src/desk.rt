@@ -1,9 +1,9 @@
 //! A slicing tree with its curves, rooms and wires, on which moves are tried.
 
 use crate::curves::Curves;
-use crate::edits::Moves;
+use crate::edits::{Changed, Moves};
 use crate::goal::{Extent, Goal};
-use crate::links::LinkedTree;
+use crate::links::{LinkedTree, NOWHERE};
 use crate::rooms::Rooms;
 use crate::wires::Wires;
 use crate::words::Words;
@@ -39,7 +39,11 @@ impl Desk {
         let goal = Goal::new(design);
         if let Some(extent) = extent_of(&tree, &curves, &goal) {
             rooms.lay(&tree, &curves, extent.size)?;
-            rooms.keep();
+            let all = Changed {
+                first: tree.root(),
+                second: NOWHERE,
+            };
+            rooms.keep(&tree, all, NOWHERE)?;
         }
         let wires = Wires::new(alloc, design, rooms.centres())?;
         Ok(Desk {
@@ -93,9 +97,8 @@ impl Desk {
         }
         if self.goal.counts_wires() {
             self.rooms.lay(&self.tree, &self.curves, extent.size)?;
-            let most = self.goal.most_wires(limit - rooms);
-            let moved = self.rooms.moved();
-            self.wires.renew_moved(self.rooms.centres(), moved, most)?;
+            let (old, centres) = (self.rooms.old_centres(), self.rooms.centres());
+            self.wires.renew_moved(old, centres, self.rooms.moved());
         }
         let value = self.value_of(extent);
         Ok((value.counts <= limit).then_some(value))
@@ -106,34 +109,34 @@ impl Desk {
         let Some(changed) = self.moves.change(&mut self.tree, words)? else {
             return Ok(None);
         };
-        self.curves.renew_up(&self.tree, changed)?;
+        let meet = self.curves.renew_up(&self.tree, changed)?;
         let value = self.value_within(limit)?;
         match value {
-            Some(_) => self.keep()?,
+            Some(_) => self.keep(changed, meet)?,
             None => self.restore()?,
         }
         Ok(value)
     }
 
-    /// Lets all stand as it is now.
-    fn keep(&mut self) -> Result<(), NoMemory> {
+    /// Lets all stand as it is now. What changed lies above two joints, whose ways upward meet here.
+    fn keep(&mut self, changed: Changed, meet: u16) -> Result<(), NoMemory> {
         self.tree.keep();
-        self.rooms.keep();
         self.wires.keep();
-        self.curves.keep()
+        self.curves.keep();
+        self.rooms.keep(&self.tree, changed, meet)
     }
 
     /// Makes all what it was when it was kept last.
     fn restore(&mut self) -> Result<(), NoMemory> {
         self.tree.restore();
-        self.rooms.restore();
         self.wires.restore();
-        self.curves.restore()
+        self.curves.restore();
+        self.rooms.restore()
     }
 }
 
 /// The extent of a tree that counts.
 fn extent_of(tree: &LinkedTree, curves: &Curves, goal: &Goal) -> Option<Extent> {
     let curve = curves.of(tree.root())?;
-    goal.best_of(curve.points())
+    goal.best_of(curve.as_slice())
 }

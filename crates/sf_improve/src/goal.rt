@@ -46,11 +46,6 @@ impl Goal {
         u64::from(self.weights.wire).saturating_mul(length)
     }
 
-    /// How long wires may be that count no more than this.
-    pub fn most_wires(&self, most: u64) -> u64 {
-        most / u64::from(self.weights.wire).max(1)
-    }
-
     /// How far a size stands out: the area of a strip as long as each side of the outline that it passes.
     fn excess(&self, size: Point) -> u64 {
         let wide = size.w.saturating_sub(self.outline.w);
@@ -59,26 +54,42 @@ impl Goal {
         across.saturating_add(u64::from(high) * u64::from(self.outline.w))
     }
 
-    /// Whether an extent goes before another one: of two that fit the one of less area, and else the one that
-    /// stands out less.
-    fn is_better(&self, one: Extent, other: Extent) -> bool {
-        if one.excess == 0 && other.excess == 0 {
-            return area(one.size) < area(other.size);
+    /// The first best of the sizes that a plan can have: of those that fit the one of least area, and where none
+    /// does the one that stands out least.
+    pub fn best_of(&self, sizes: &[Point]) -> Option<Extent> {
+        match self.least_within(sizes) {
+            Some(size) => Some(Extent { size, excess: 0 }),
+            None => self.least_outside(sizes),
         }
-        one.excess < other.excess
     }
 
-    /// The first best of the sizes that a plan can have.
-    pub fn best_of(&self, sizes: &[Point]) -> Option<Extent> {
+    /// The first size of least area that fits.
+    fn least_within(&self, sizes: &[Point]) -> Option<Point> {
+        let mut best = None;
+        let mut least = u64::MAX;
+        for size in sizes {
+            let fits = size.w <= self.outline.w && size.h <= self.outline.h;
+            if fits && area(*size) < least {
+                least = area(*size);
+                best = Some(*size);
+            }
+        }
+        best
+    }
+
+    /// The first size that stands out least.
+    fn least_outside(&self, sizes: &[Point]) -> Option<Extent> {
         let mut best: Option<Extent> = None;
         for size in sizes {
-            let extent = Extent {
-                size: *size,
-                excess: self.excess(*size),
-            };
+            let excess = self.excess(*size);
             match best {
-                Some(found) if !self.is_better(extent, found) => {}
-                _ => best = Some(extent),
+                Some(found) if found.excess <= excess => {}
+                _ => {
+                    best = Some(Extent {
+                        size: *size,
+                        excess,
+                    });
+                }
             }
         }
         best

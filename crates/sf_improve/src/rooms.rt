@@ -1,52 +1,56 @@
 //! The rooms of the nodes of a tree, kept from one tree to the next.
 
 use crate::curves::Curves;
-use crate::links::LinkedTree;
+use crate::edits::Changed;
+use crate::leaves::Leaves;
+use crate::links::{LinkedTree, NOWHERE};
 use sf_curves::{Direction, Point};
 use std::alloc::{AllocError as NoMemory, Global};
 
 /// A doubled point.
 pub type Centre = (i64, i64);
 
-/// Where a node stands, and a size that its curve has.
-#[derive(Clone, Copy, PartialEq, Eq)]
+/// The room of a node: the doubled point in its lower left corner, and a size that its curve has.
+#[derive(Clone, Copy)]
 struct Room {
-    x: u32,
-    y: u32,
+    node: u16,
+    corner: Centre,
     size: Point,
 }
 
 impl Room {
     /// The doubled point in the middle.
     fn centre(&self) -> Centre {
-        let across = 2 * i64::from(self.x) + i64::from(self.size.w);
-        let upward = 2 * i64::from(self.y) + i64::from(self.size.h);
+        let (x, y) = self.corner;
+        let across = x.wrapping_add(i64::from(self.size.w));
+        let upward = y.wrapping_add(i64::from(self.size.h));
         (across, upward)
     }
 }
 
-/// The room of each node, the centre of each block, what was there before the last move, and which blocks moved.
+/// The size of each node and the centre of each block, as they are and as they were kept last, and which blocks
+/// moved.
 #[derive(Drop)]
 pub struct Rooms {
-    of_nodes: Vec<Room>,
+    leaves: Leaves,
+    sizes: Vec<Point>,
+    old_sizes: Vec<Point>,
     centres: Vec<Centre>,
-    replaced: Vec<(u16, Room)>,
+    old_centres: Vec<Centre>,
     moved: Vec<u16>,
-    waiting: Vec<(u16, Room)>,
+    waiting: Vec<Room>,
 }
 
 impl Rooms {
     /// No rooms yet, for a tree of these blocks.
     pub fn new(alloc: Global, blocks: u16, tree: &LinkedTree) -> Result<Rooms, NoMemory> {
-        let none = Room {
-            x: 0,
-            y: 0,
-            size: Point { w: 0, h: 0 },
-        };
+        let none = Point { w: 0, h: 0 };
         Ok(Rooms {
-            of_nodes: vec![in alloc; none; tree.len()]?,
+            leaves: Leaves::new(alloc, blocks, tree)?,
+            sizes: vec![in alloc; none; tree.len()]?,
+            old_sizes: vec![in alloc; none; tree.len()]?,
             centres: vec![in alloc; (0, 0); usize::from(blocks)]?,
-            replaced: Vec::new(alloc),
+            old_centres: vec![in alloc; (0, 0); usize::from(blocks)]?,
             moved: Vec::new(alloc),
             waiting: Vec::new(alloc),
         })
@@ -57,56 +61,91 @@ impl Rooms {
         &self.centres
     }
 
-    /// The blocks whose centres moved.
+    /// What these were when they were kept last.
+    pub fn old_centres(&self) -> &[Centre] {
+        &self.old_centres
+    }
+
+    /// The blocks that may have moved.
     pub fn moved(&self) -> &[u16] {
         &self.moved
     }
 
-    /// Gives a node its room. Whether it had another one.
-    fn take(&mut self, node: u16, room: Room) -> Result<bool, NoMemory> {
-        let Some(place) = self.of_nodes.get_mut(usize::from(node)) else {
-            return Ok(false);
-        };
-        let old = *place;
-        if old == room {
-            return Ok(false);
-        }
-        *place = room;
-        self.replaced.push((node, old))?;
-        if let Some(centre) = self.centres.get_mut(usize::from(node)) {
-            if *centre != room.centre() {
-                *centre = room.centre();
-                self.moved.push(node)?;
-            }
-        }
-        Ok(true)
-    }
-
-    /// Lays a tree of this size: each node takes its room. What stands in a room that is as before is laid anew
-    /// only where the node is marked.
+    /// Lays a tree of this size. Where neither a node is marked nor its size is another one, the rooms below it
+    /// are as before, and only shifted.
     pub fn lay(&mut self, tree: &LinkedTree, curves: &Curves, size: Point) -> Result<(), NoMemory> {
+        self.moved.clear();
         self.waiting.clear();
-        self.waiting.push((tree.root(), Room { x: 0, y: 0, size }))?;
+        let root = Room {
+            node: tree.root(),
+            corner: (0, 0),
+            size,
+        };
+        self.take(curves, root)?;
         for _step in 0..tree.len() {
-            let Some((node, room)) = self.waiting.pop() else {
+            let Some(room) = self.waiting.pop() else {
                 break;
             };
-            if self.take(node, room)? || curves.is_marked(node) {
-                self.divide(tree, curves, node, room)?;
+            self.divide(tree, curves, room)?;
+        }
+        Ok(())
+    }
+
+    /// Gives a node its room: a joint waits until that is divided.
+    #[inline(always)]
+    fn take(&mut self, curves: &Curves, room: Room) -> Result<(), NoMemory> {
+        let Some(size) = self.sizes.get_mut(usize::from(room.node)) else {
+            return Ok(());
+        };
+        if let Some(centre) = self.centres.get_mut(usize::from(room.node)) {
+            *size = room.size;
+            *centre = room.centre();
+            self.moved.push(room.node)?;
+        } else if *size == room.size && !curves.is_marked(room.node) {
+            self.shift(room)?;
+        } else {
+            *size = room.size;
+            self.waiting.push(room)?;
+        }
+        Ok(())
+    }
+
+    /// Shifts all blocks below a node to where its room is now, by as much as the first of them, which lies in the
+    /// room's corner.
+    fn shift(&mut self, room: Room) -> Result<(), NoMemory> {
+        let (first, last) = self.leaves.ends_of(room.node);
+        let size = self.sizes.get(usize::from(first));
+        let old = self.centres.get(usize::from(first));
+        let (Some(size), Some(old)) = (size, old) else {
+            return Ok(());
+        };
+        let (x, y) = Room {
+            size: *size,
+            ..room
+        }
+        .centre();
+        let (across, upward) = (x.wrapping_sub(old.0), y.wrapping_sub(old.1));
+        if across == 0 && upward == 0 {
+            return Ok(());
+        }
+        let mut block = first;
+        for _step in 0..self.centres.len() {
+            let Some(centre) = self.centres.get_mut(usize::from(block)) else {
+                break;
+            };
+            *centre = (centre.0.wrapping_add(across), centre.1.wrapping_add(upward));
+            self.moved.push(block)?;
+            if block == last {
+                break;
             }
+            block = self.leaves.next(block);
         }
         Ok(())
     }
 
     /// Divides the room of a joint between its parts.
-    fn divide(
-        &mut self,
-        tree: &LinkedTree,
-        curves: &Curves,
-        node: u16,
-        room: Room,
-    ) -> Result<(), NoMemory> {
-        let Room { x, y, size } = room;
+    fn divide(&mut self, tree: &LinkedTree, curves: &Curves, room: Room) -> Result<(), NoMemory> {
+        let Room { node, corner, size } = room;
         let links = tree.at(node);
         let (Some(left), Some(right)) = (curves.of(links.left), curves.of(links.right)) else {
             return Ok(());
@@ -116,41 +155,42 @@ impl Rooms {
             Direction::Above => (left.lowest(size.w), right.lowest(size.w)),
         };
         let (first, second) = (first.unwrap_or(size), second.unwrap_or(size));
-        let (across, upward) = match links.direction {
-            Direction::Beside => (x.wrapping_add(first.w), y),
-            Direction::Above => (x, y.wrapping_add(first.h)),
+        let (x, y) = corner;
+        let other = match links.direction {
+            Direction::Beside => (x.wrapping_add(2 * i64::from(first.w)), y),
+            Direction::Above => (x, y.wrapping_add(2 * i64::from(first.h))),
         };
-        self.waiting.push((links.left, Room { x, y, size: first }))?;
-        self.waiting.push((
-            links.right,
-            Room {
-                x: across,
-                y: upward,
-                size: second,
-            },
-        ))?;
-        Ok(())
+        let left = Room {
+            node: links.left,
+            corner,
+            size: first,
+        };
+        let right = Room {
+            node: links.right,
+            corner: other,
+            size: second,
+        };
+        self.take(curves, left)?;
+        self.take(curves, right)
     }
 
-    /// Lets all stand as it is now.
-    pub fn keep(&mut self) {
-        self.replaced.clear();
-        self.moved.clear();
+    /// Lets all stand as it is now. What changed in the tree lies above two joints, whose ways upward meet here.
+    pub fn keep(&mut self, tree: &LinkedTree, changed: Changed, meet: u16) -> Result<(), NoMemory> {
+        self.leaves.join_up(tree, changed.second, meet);
+        self.leaves.join_up(tree, changed.first, NOWHERE);
+        copy(&mut self.old_sizes, &self.sizes)?;
+        copy(&mut self.old_centres, &self.centres)
     }
 
     /// Makes all what it was when it was kept last.
-    pub fn restore(&mut self) {
-        self.moved.clear();
-        for _change in 0..self.replaced.len() {
-            let Some((node, room)) = self.replaced.pop() else {
-                break;
-            };
-            if let Some(place) = self.of_nodes.get_mut(usize::from(node)) {
-                *place = room;
-            }
-            if let Some(centre) = self.centres.get_mut(usize::from(node)) {
-                *centre = room.centre();
-            }
-        }
+    pub fn restore(&mut self) -> Result<(), NoMemory> {
+        copy(&mut self.sizes, &self.old_sizes)?;
+        copy(&mut self.centres, &self.old_centres)
     }
+}
+
+/// Makes a list the same as another one.
+fn copy<T: Copy>(list: &mut Vec<T>, other: &[T]) -> Result<(), NoMemory> {
+    list.clear();
+    list.extend_from_slice(other)
 }
