@@ -59,11 +59,13 @@ impl Curves {
     }
 
     /// The curve of a node.
+    #[inline(always)]
     pub fn of(&self, node: u16) -> Option<&Sizes> {
         self.of_nodes.get(usize::from(node))
     }
 
     /// Whether the node is marked.
+    #[inline(always)]
     pub fn is_marked(&self, node: u16) -> bool {
         match self.marks.get(usize::from(node)) {
             Some(mark) => *mark == self.mark,
@@ -72,6 +74,7 @@ impl Curves {
     }
 
     /// Marks a node.
+    #[inline(always)]
     fn mark(&mut self, node: u16) {
         if let Some(mark) = self.marks.get_mut(usize::from(node)) {
             *mark = self.mark;

@@ -31,6 +31,7 @@ impl Leaves {
     }
 
     /// The first and the last block below a node.
+    #[inline(always)]
     pub fn ends_of(&self, node: u16) -> (u16, u16) {
         match self.ends.get(usize::from(node)) {
             Some(ends) => *ends,
@@ -39,6 +40,7 @@ impl Leaves {
     }
 
     /// The block behind another one.
+    #[inline(always)]
     pub fn next(&self, block: u16) -> u16 {
         match self.next.get(usize::from(block)) {
             Some(next) => *next,

@@ -23,7 +23,8 @@ impl Bounds {
     };
 
     /// The box of one point more.
-    fn with(self, (x, y): Centre) -> Bounds {
+    #[inline(always)]
+    fn with(self, x: i64, y: i64) -> Bounds {
         Bounds {
             left: self.left.min(x),
             right: self.right.max(x),
@@ -32,15 +33,23 @@ impl Bounds {
         }
     }
 
+    /// The box of the centre of one block more.
+    #[inline(always)]
+    fn with_centre(self, (x, y): Centre) -> Bounds {
+        self.with(i64::from(x), i64::from(y))
+    }
+
     /// Whether there are no points.
     pub fn is_none(&self) -> bool {
         self.left > self.right
     }
 
     /// The half perimeter round one point at least.
+    #[inline(always)]
     pub fn half_perimeter(&self) -> u64 {
-        let across = self.left.abs_diff(self.right);
-        across.wrapping_add(self.lower.abs_diff(self.upper))
+        let across = self.right.wrapping_sub(self.left);
+        let upward = self.upper.wrapping_sub(self.lower);
+        across.wrapping_add(upward).cast_unsigned()
     }
 }
 
@@ -53,7 +62,7 @@ pub fn pins_of(alloc: Global, design: &Design, net: &Net) -> Result<(Vec<u16>, B
             Pin::Block(block) => blocks.push(block)?,
             Pin::Pad(pad) => {
                 if let Some(pad) = design.pads.as_slice().get(usize::from(pad)) {
-                    pads = pads.with((2 * i64::from(pad.x), 2 * i64::from(pad.y)));
+                    pads = pads.with(2 * i64::from(pad.x), 2 * i64::from(pad.y));
                 }
             }
         }
@@ -71,14 +80,15 @@ pub struct Pair {
 
 impl Pair {
     /// How long its wire is, as often as its weight says.
+    #[inline(always)]
     pub fn length(&self, centres: &[Centre]) -> u64 {
         let one = centres.get(usize::from(self.one));
         let other = centres.get(usize::from(self.other));
         let (Some(one), Some(other)) = (one, other) else {
             return 0;
         };
-        let across = one.0.wrapping_sub(other.0).unsigned_abs();
-        let upward = one.1.wrapping_sub(other.1).unsigned_abs();
+        let across = u64::from(one.0.wrapping_sub(other.0).unsigned_abs());
+        let upward = u64::from(one.1.wrapping_sub(other.1).unsigned_abs());
         across.wrapping_add(upward).wrapping_mul(self.weight)
     }
 }
@@ -95,16 +105,17 @@ pub struct Group {
 
 impl Group {
     /// How long its wire is, as often as its weight says.
+    #[inline(always)]
     pub fn length(&self, centres: &[Centre]) -> u64 {
         let one = centres.get(usize::from(self.one));
         let other = centres.get(usize::from(self.other));
         let (Some(one), Some(other)) = (one, other) else {
             return 0;
         };
-        let mut bounds = self.pads.with(*one).with(*other);
+        let mut bounds = self.pads.with_centre(*one).with_centre(*other);
         for block in &self.others {
             if let Some(centre) = centres.get(usize::from(*block)) {
-                bounds = bounds.with(*centre);
+                bounds = bounds.with_centre(*centre);
             }
         }
         bounds.half_perimeter().wrapping_mul(self.weight)

@@ -7,8 +7,8 @@ use crate::links::{LinkedTree, NOWHERE};
 use sf_curves::{Direction, Point};
 use std::alloc::{AllocError as NoMemory, Global};
 
-/// A doubled point.
-pub type Centre = (i64, i64);
+/// A doubled point of a plan. No sum of the sides of blocks is as great as 2^29.
+pub type Centre = (i32, i32);
 
 /// The room of a node: the doubled point in its lower left corner, and a size that its curve has.
 #[derive(Clone, Copy)]
@@ -20,10 +20,11 @@ struct Room {
 
 impl Room {
     /// The doubled point in the middle.
+    #[inline(always)]
     fn centre(&self) -> Centre {
         let (x, y) = self.corner;
-        let across = x.wrapping_add(i64::from(self.size.w));
-        let upward = y.wrapping_add(i64::from(self.size.h));
+        let across = x.wrapping_add(self.size.w.cast_signed());
+        let upward = y.wrapping_add(self.size.h.cast_signed());
         (across, upward)
     }
 }
@@ -112,6 +113,7 @@ impl Rooms {
 
     /// Shifts all blocks below a node to where its room is now, by as much as the first of them, which lies in the
     /// room's corner.
+    #[inline(always)]
     fn shift(&mut self, room: Room) -> Result<(), NoMemory> {
         let (first, last) = self.leaves.ends_of(room.node);
         let size = self.sizes.get(usize::from(first));
@@ -144,6 +146,7 @@ impl Rooms {
     }
 
     /// Divides the room of a joint between its parts.
+    #[inline(always)]
     fn divide(&mut self, tree: &LinkedTree, curves: &Curves, room: Room) -> Result<(), NoMemory> {
         let Room { node, corner, size } = room;
         let links = tree.at(node);
@@ -157,8 +160,8 @@ impl Rooms {
         let (first, second) = (first.unwrap_or(size), second.unwrap_or(size));
         let (x, y) = corner;
         let other = match links.direction {
-            Direction::Beside => (x.wrapping_add(2 * i64::from(first.w)), y),
-            Direction::Above => (x, y.wrapping_add(2 * i64::from(first.h))),
+            Direction::Beside => (x.wrapping_add(first.w.cast_signed().wrapping_mul(2)), y),
+            Direction::Above => (x, y.wrapping_add(first.h.cast_signed().wrapping_mul(2))),
         };
         let left = Room {
             node: links.left,

@@ -7,8 +7,8 @@ use std::alloc::{AllocError as NoMemory, Global};
 #[derive(Drop)]
 pub struct Sizes {
     list: Vec<Point>,
-    from: usize,
-    to: usize,
+    from: u32,
+    to: u32,
 }
 
 impl Sizes {
@@ -23,7 +23,7 @@ impl Sizes {
 
     /// The points of a curve.
     pub fn of_points(points: Vec<Point>) -> Sizes {
-        let to = points.len();
+        let to = count_of(&points);
         Sizes {
             list: points,
             from: 0,
@@ -34,13 +34,14 @@ impl Sizes {
     /// All of them.
     #[inline(always)]
     pub fn as_slice(&self) -> &[Point] {
-        match self.list.get(self.from..self.to) {
+        match self.list.get(self.from as usize..self.to as usize) {
             Some(sizes) => sizes,
             None => &[],
         }
     }
 
     /// Fills the list with the curve of two rooms that are joined.
+    #[inline(always)]
     pub fn join(
         &mut self,
         first: &Sizes,
@@ -91,8 +92,8 @@ impl Sizes {
     fn join_above(&mut self, first: &[Point], second: &[Point]) {
         let mut i = first.len().wrapping_sub(1);
         let mut j = second.len().wrapping_sub(1);
-        self.from = self.list.len();
-        self.to = self.list.len();
+        self.to = count_of(&self.list);
+        self.from = self.to;
         for place in self.list.iter_mut().rev() {
             let (Some(one), Some(other)) = (first.get(i), second.get(j)) else {
                 break;
@@ -130,4 +131,10 @@ impl Sizes {
         }
         lowest
     }
+}
+
+/// How many sizes these are.
+#[inline(always)]
+fn count_of(sizes: &[Point]) -> u32 {
+    u32::try_from(sizes.len()).unwrap_or(u32::MAX)
 }
