@@ -58,7 +58,7 @@ def contracts(crate, path):
                 yield text
             continue
         for part in re.split(r"\n(?=(?:pub )?(?:impl|trait)\b)", text):
-            if owner and not re.search(r"\b%s\b" % owner, part.split("{")[0].split(" for ")[-1]):
+            if owner and not re.search(r"\b%s\b" % owner, part.split("{")[0]):
                 continue
             for head in re.finditer(r"\bfn %s\b(.*?)(?=\n\s*(?:///|(?:pub )?(?:const )?fn )|\n\s*\{\s*\n|\Z)" % name, part, re.S):
                 yield head.group(1)

@@ -2,13 +2,13 @@
 use Rattle.std.specs.Prelude.{◌≡◌, ℕ, ◌+◌, ◌^◌, ◌≤◌, List, length, replicate, codes, Option, None, Some, Result, Ok, Err}
 use Rattle.sf_io.specs.Outside.{Contents, Holds, HoldsMore, MayFail}
 use Rattle.sf_model.specs.declared.design.Design.{Design}
-use Rattle.sf_model.specs.declared.fault.BuildFault.{BuildFault}
+use Rattle.sf_parts.specs.declared.fault.BuildFault.{BuildFault}
 use Rattle.sf_model.specs.declared.parts.Outline.{Outline}
 use Rattle.sf_model.specs.declared.parts.Shape.{Shape}
 use Rattle.sf_model.specs.declared.parts.Weights.{Weights}
-use Rattle.sf_model.specs.declared.raw.Parts.{Parts}
-use Rattle.sf_model.specs.Admitted.{IsAdmitted, first_refusal}
-use Rattle.sf_model.specs.Built.{IsDesignOf}
+use Rattle.sf_parts.specs.declared.raw.Parts.{Parts}
+use Rattle.sf_parts.specs.Admitted.{IsAdmitted, first_refusal}
+use Rattle.sf_parts.specs.Built.{IsDesignOf}
 use Rattle.sf_soft_shapes.specs.Listed.{AreListsOf, HasNoneFor}
 use Rattle.sf_gsrc.specs.declared.output.GsrcBlocks.{GsrcBlocks}
 use Rattle.sf_gsrc.specs.declared.output.GsrcNets.{GsrcNets}

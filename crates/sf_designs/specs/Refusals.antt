@@ -3,10 +3,10 @@ use Rattle.std.specs.Prelude.{ℕ, List, [], ◌∷◌, ◌++◌, codes}
 use Rattle.std.specs.Fmt.{decimal}
 use Rattle.sf_lex.specs.declared.number.NumberFault.{NumberFault}
 use Rattle.sf_lex.specs.declared.number.NumberFault.TheVariants.{NotNumber, TooManyDigits, NotWhole, TooLarge}
-use Rattle.sf_model.specs.declared.fault.BuildFault.{BuildFault}
-use Rattle.sf_model.specs.declared.fault.BuildFault.TheVariants as build
-use Rattle.sf_model.specs.declared.fault.Limit.{Limit}
-use Rattle.sf_model.specs.declared.fault.Limit.TheVariants.{Blocks, Pads, Nets, Pins, Side, Area, Coordinate}
+use Rattle.sf_parts.specs.declared.fault.BuildFault.{BuildFault}
+use Rattle.sf_parts.specs.declared.fault.BuildFault.TheVariants as build
+use Rattle.sf_parts.specs.declared.fault.Limit.{Limit}
+use Rattle.sf_parts.specs.declared.fault.Limit.TheVariants.{Blocks, Pads, Nets, Pins, Side, Area, Coordinate}
 use Rattle.sf_gsrc.specs.declared.fault.GsrcFault.{GsrcFault}
 use Rattle.sf_gsrc.specs.declared.fault.GsrcFault.TheVariants as gsrc
 use Rattle.sf_gsrc.specs.declared.fault.JoinFault.{JoinFault}

@@ -1,6 +1,6 @@
 -- Parts, and a weight for each of their nets.
 use Rattle.std.specs.Prelude.{ℕ, List, length, replicate}
-use Rattle.sf_model.specs.declared.raw.Parts.{Parts}
+use Rattle.sf_parts.specs.declared.raw.Parts.{Parts}
 use Rattle.sf_designs.specs.declared.weighed.AdmittedParts.{AdmittedParts}
 use Rattle.sf_designs.specs.declared.weighed.Weighed.{Weighed}
 

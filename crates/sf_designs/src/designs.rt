@@ -1,7 +1,7 @@
 //! From parts to a design.
 
 ghost use Rattle.std.specs.Prelude.{◌≡◌, IfOk, None};
-ghost use Rattle.sf_model.specs.Built.{HasShapeChoices, first_shapeless};
+ghost use Rattle.sf_parts.specs.Built.{HasShapeChoices, first_shapeless};
 ghost use Rattle.sf_words.specs.Seen.{design_seen, weights_seen};
 ghost use Rattle.sf_designs.specs.Loads.{ReadsShelf, TellsNoLoad};
 ghost use Rattle.sf_designs.specs.Outcome.{Ends};
@@ -13,7 +13,8 @@ use crate::refusals::build_fault;
 use crate::stop::Stop;
 use crate::weighed::{AdmittedParts, Weighed};
 use sf_io::Shelf;
-use sf_model::{BuildFault, Design, Outline, Shapes, Weights};
+use sf_model::{Design, Outline, Shapes, Weights};
+use sf_parts::{Build, BuildFault};
 use sf_soft_shapes::lists;
 use sf_words::{DesignWords, WeightWords};
 use std::alloc::Global;

@@ -1,7 +1,7 @@
 //! Texts to what they stand for, or to their refusal.
 
 ghost use Rattle.std.specs.Prelude.{◌≡◌, ◌≤◌, ◌^◌, length, codes, All, IfOk, IfSome};
-ghost use Rattle.sf_model.specs.Admitted.{IsSized};
+ghost use Rattle.sf_parts.specs.Admitted.{IsSized};
 ghost use Rattle.sf_gsrc.specs.Blocks.{blocks_read};
 ghost use Rattle.sf_gsrc.specs.Join.{joined, nets_in};
 ghost use Rattle.sf_gsrc.specs.Nets.{nets_read};

@@ -2,7 +2,7 @@
 
 ghost use Rattle.std.specs.Prelude.{◌≡◌, ◌≤◌, ◌^◌, length, codes, All, IfOk, IfSome};
 ghost use Rattle.sf_words.specs.Seen.{input_seen, text_of};
-ghost use Rattle.sf_model.specs.Admitted.{IsSized};
+ghost use Rattle.sf_parts.specs.Admitted.{IsSized};
 ghost use Rattle.sf_gsrc.specs.Join.{nets_in};
 ghost use Rattle.sf_gsrc.specs.Ranges.{HasPinsInAnyRange};
 ghost use Rattle.sf_designs.specs.Loads.{ReadsShelf, TellsNoLoad};

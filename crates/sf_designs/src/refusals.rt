@@ -11,7 +11,8 @@ use crate::stop::Stop;
 use sf_gsrc::{GsrcFault, WeightFault};
 use sf_io::Status;
 use sf_lex::NumberFault;
-use sf_model::{BuildFault, Limit, Name};
+use sf_model::Name;
+use sf_parts::{BuildFault, Limit};
 use sf_yal::YalFault;
 use std::alloc::{AllocError as NoMemory, Global};
 

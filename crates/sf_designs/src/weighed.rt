@@ -2,10 +2,10 @@
 
 ghost use Rattle.std.specs.Prelude.{◌≡◌, IfOk, length, replicate};
 ghost use Rattle.std.proofs.Props.{props};
-ghost use Rattle.sf_model.specs.Admitted.{HasPinsInRange, HasSizes, IsAdmitted};
-ghost use Rattle.sf_model.specs.Props.{IsPinInRange-prop, IsSized-prop};
+ghost use Rattle.sf_parts.specs.Admitted.{HasPinsInRange, HasSizes, IsAdmitted};
+ghost use Rattle.sf_parts.specs.Props.{IsPinInRange-prop, IsSized-prop};
 
-use sf_model::Parts;
+use sf_parts::Parts;
 use std::alloc::{AllocError as NoMemory, Global};
 
 /// Parts, as the texts of a design say them.

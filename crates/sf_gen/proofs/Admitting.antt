@@ -3,14 +3,14 @@ use Rattle.std.proofs.Common.{◌≡◌, ℕ, zero, suc, ◌+◌, ◌*◌, ◌-�
 use Rattle.sf_gen.proofs.Common.{map, min, sum_by, Some, pos, decimal, AllByRecursion, each-map, flat_map, list_any, cases_eq, false_from_ne_true, le-ltb, nat_tests, decimal_digit, decimal_injective, length-map, sum_by-cons, RawBlock, Kinds, Ends, Size, named_parts, raw_block, raw_blocks, raw_nets, raw_pads, parts_of, sizes, ends, net_count, indexed, is_soft, block_name, pad_name, pad_pins, pins_of, nets_pins, square, BuildFault}
 use Rattle.std.proofs.lemmas.Slice.Eq.{bytes_eq-Decides}
 use Rattle.std.proofs.Math.Bool.{or-true, and-false}
-use Rattle.sf_model.specs.declared.fault.BuildFault.TheVariants as fault
-use Rattle.sf_model.specs.declared.fault.Limit.{Limit}
-use Rattle.sf_model.specs.declared.fault.Limit.TheVariants as limit
-use Rattle.sf_model.specs.declared.raw.Kind.TheVariants as kind
-use Rattle.sf_model.specs.declared.raw.Parts.{Parts}
-use Rattle.sf_model.specs.declared.raw.RawNet.{RawNet}
-use Rattle.sf_model.specs.declared.raw.RawPin.TheVariants.{Named}
-use Rattle.sf_model.specs.Admitted.{first, no_blocks, over, over_counts, over_kind, over_place, over_places, over_limits, block_names, pad_names, is_block_name, repeated_names, if_both, if_neither, at_pin_name, at_pin_names, at_placed_name, duplicates, unknowns, missing_places, name_faults, IsAdmitted}
+use Rattle.sf_parts.specs.declared.fault.BuildFault.TheVariants as fault
+use Rattle.sf_parts.specs.declared.fault.Limit.{Limit}
+use Rattle.sf_parts.specs.declared.fault.Limit.TheVariants as limit
+use Rattle.sf_parts.specs.declared.raw.Kind.TheVariants as kind
+use Rattle.sf_parts.specs.declared.raw.Parts.{Parts}
+use Rattle.sf_parts.specs.declared.raw.RawNet.{RawNet}
+use Rattle.sf_parts.specs.declared.raw.RawPin.TheVariants.{Named}
+use Rattle.sf_parts.specs.Admitted.{first, no_blocks, over, over_counts, over_kind, over_place, over_places, over_limits, block_names, pad_names, is_block_name, repeated_names, if_both, if_neither, at_pin_name, at_pin_names, at_placed_name, duplicates, unknowns, missing_places, name_faults, IsAdmitted}
 use Rattle.sf_gsrc.proofs.Numbered.{refusal_same}
 use Rattle.sf_gen.proofs.BlockLines.{IsSmall, area_high}
 use Rattle.sf_gen.proofs.Counts.{few_nets, length-indexed}

@@ -2,7 +2,7 @@
 use Rattle.std.proofs.Common.{◌≡◌, ℕ, ◌*◌, ◌<◌, ◌≤◌, ◌^◌, ◌==◌, true, false, List, [], ◌∷◌, ◌++◌, refl, ap, ◌∙◌, arith, ◌-ℤ◌}
 use Rattle.sf_gen.proofs.Common.{pos, unsigned_abs, Some, None, Ok, codes, decimal, le-ltb, lt-ltb, nat_tests, decimal_nonempty, words, is_gap, first_word, after_word, decimal_read, signed_read, Blanks, Points, words-written, RawBlock, is_content_word, is_colon, counted_of, form_of, Item, BlockIs, counted_by, hard_said, soft_said, plain_said, form_said, Size, block_name, hard_line, soft_line, mul-le-mul, Gap}
 use Rattle.std.proofs.lemmas.Int.{ints}
-use Rattle.sf_model.specs.declared.raw.Kind.TheVariants as kind
+use Rattle.sf_parts.specs.declared.raw.Kind.TheVariants as kind
 use Rattle.sf_lex.specs.Vertices.{coordinate_of, extent, vertex_of, vertices_of}
 use Rattle.sf_gsrc.specs.declared.keywords.Form.{Form}
 use Rattle.sf_gsrc.specs.declared.keywords.Form.TheVariants as forms

@@ -1,7 +1,7 @@
 -- The text of the blocks is read again.
 use Rattle.std.proofs.Common.{◌≡◌, ℕ, ◌+◌, ◌*◌, ◌<◌, ◌≤◌, ◌^◌, Bool, true, false, cond, List, [], ◌∷◌, ◌++◌, length, refl, sym, ap, subst, ◌∙◌, arith, append_assoc}
 use Rattle.sf_gen.proofs.Common.{not, map, count_by, Option, None, Ok, codes, decimal, AllByRecursion, AllZip, cons_option, filter_map, flat_map, range_with_len, append-nil, filter_map-append, sum_by-cons, numbered, decimal_read, RawBlock, content_of, is_title, Said, CountIs, ItemIs, Entry, block_at, pad_at, is_soft_kind, counted_of, form_of, BlockIs, PadIs, counted_by, count_said, plain_said, Kinds, Size, raw_block, raw_blocks, pad_list, blocks_out, indexed, is_soft, block_name, hard_line, soft_line, block_line, block_lines, blocks_head, soft_count, hard_count}
-use Rattle.sf_model.specs.declared.raw.Kind.TheVariants as kind
+use Rattle.sf_parts.specs.declared.raw.Kind.TheVariants as kind
 use Rattle.sf_gsrc.specs.declared.count.Count.{Count}
 use Rattle.sf_gsrc.specs.declared.keywords.Counted.{Counted}
 use Rattle.sf_gsrc.specs.declared.keywords.Counted.TheVariants.{Soft, Hard, Terminals}

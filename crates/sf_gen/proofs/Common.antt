@@ -23,8 +23,8 @@ pub use Rattle.sf_lex.specs.Text.{has_none, is_line_feed, is_not_empty, lines, w
 pub use Rattle.sf_lex.specs.declared.field.Gap.{Gap}
 pub use Rattle.sf_lex.specs.declared.field.Gap.TheVariants.{Blanks, Colons, Points, Sizes}
 pub use Rattle.sf_model.proofs.Each.{each-any, each-append, each-map}
-pub use Rattle.sf_model.specs.declared.fault.BuildFault.{BuildFault}
-pub use Rattle.sf_model.specs.declared.raw.RawBlock.{RawBlock}
+pub use Rattle.sf_parts.specs.declared.fault.BuildFault.{BuildFault}
+pub use Rattle.sf_parts.specs.declared.raw.RawBlock.{RawBlock}
 pub use Rattle.std.proofs.Math.Nat.{mul-le-mul, mul-le-mul_right}
 pub use Rattle.std.proofs.lemmas.Bool.{and_parts, cases_eq, cases_lt, false_from_ne_true, le-ltb, lt-ltb}
 pub use Rattle.std.proofs.lemmas.Bool.Decides.{nat_tests}

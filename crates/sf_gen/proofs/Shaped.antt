@@ -3,10 +3,10 @@ use Rattle.std.proofs.Common.{◌≡◌, ℕ, zero, suc, ◌+◌, ◌*◌, ◌-�
 use Rattle.sf_gen.proofs.Common.{map, max, min, nat_le, zip, Some, None, AllByRecursion, range_with_len, cases_lt, All-head, All-tail, RawBlock, Kinds, Size, raw_block, raw_blocks, sizes, is_soft, mul-le-mul, mul-le-mul_right, BuildFault}
 use Rattle.std.proofs.Math.Nat.{lt_of_not-le}
 use Rattle.std.proofs.lemmas.Grind.{div_ceil_times}
-use Rattle.sf_model.specs.Built.{first_shapeless}
-use Rattle.sf_model.specs.declared.fault.BuildFault.TheVariants.{NoShape}
+use Rattle.sf_parts.specs.Built.{first_shapeless}
+use Rattle.sf_parts.specs.declared.fault.BuildFault.TheVariants.{NoShape}
 use Rattle.sf_model.specs.declared.parts.Shape.{Shape}
-use Rattle.sf_model.specs.declared.raw.Kind.TheVariants as kind
+use Rattle.sf_parts.specs.declared.raw.Kind.TheVariants as kind
 use Rattle.sf_soft_shapes.specs.Listed.{shape, height_at, IsAllowed, width_count, widths, IsSoftList, IsListOf, AreFirstLists, HasNoneFor}
 use Rattle.sf_gen.proofs.BlockLines.{IsSmall, area_low, area_high}
 use Rattle.sf_gen.proofs.EndsDrawn.{each_indexed, sizes_small}

@@ -1,11 +1,11 @@
 -- What the texts of a generated design stand for.
 use Rattle.std.specs.Prelude.{ℕ, ◌*◌, List, [], ◌∷◌, true, map, Some, None, pos, if◌then◌else◌, codes}
-use Rattle.sf_model.specs.declared.raw.Kind.TheVariants as kind
-use Rattle.sf_model.specs.declared.raw.RawBlock.{RawBlock}
-use Rattle.sf_model.specs.declared.raw.Parts.{Parts}
-use Rattle.sf_model.specs.declared.raw.RawNet.{RawNet}
-use Rattle.sf_model.specs.declared.raw.RawPad.{RawPad}
-use Rattle.sf_model.specs.declared.raw.RawPin.TheVariants.{Named}
+use Rattle.sf_parts.specs.declared.raw.Kind.TheVariants as kind
+use Rattle.sf_parts.specs.declared.raw.RawBlock.{RawBlock}
+use Rattle.sf_parts.specs.declared.raw.Parts.{Parts}
+use Rattle.sf_parts.specs.declared.raw.RawNet.{RawNet}
+use Rattle.sf_parts.specs.declared.raw.RawPad.{RawPad}
+use Rattle.sf_parts.specs.declared.raw.RawPin.TheVariants.{Named}
 use Rattle.sf_gsrc.specs.declared.output.GsrcBlocks.{GsrcBlocks}
 use Rattle.sf_gsrc.specs.declared.output.GsrcNets.{GsrcNets}
 use Rattle.sf_gsrc.specs.declared.output.GsrcPlaces.{GsrcPlaces}

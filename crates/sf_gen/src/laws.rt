@@ -1,9 +1,9 @@
 //! The texts are read as what they spell, and that may become a design.
 
 ghost use Rattle.std.specs.Prelude.{◌≡◌, ◌≤◌, ℕ, Bool, List, Ok, Some, None};
-ghost use Rattle.sf_model.specs.Admitted.{IsAdmitted};
-ghost use Rattle.sf_model.specs.Built.{first_shapeless};
-ghost use Rattle.sf_model.specs.declared.fault.BuildFault.{BuildFault};
+ghost use Rattle.sf_parts.specs.Admitted.{IsAdmitted};
+ghost use Rattle.sf_parts.specs.Built.{first_shapeless};
+ghost use Rattle.sf_parts.specs.declared.fault.BuildFault.{BuildFault};
 ghost use Rattle.sf_model.specs.declared.parts.Shape.{Shape};
 ghost use Rattle.sf_soft_shapes.specs.Listed.{AreListsOf, HasNoneFor};
 ghost use Rattle.sf_gsrc.specs.Blocks.{blocks_read};

@@ -1,8 +1,8 @@
 -- What is made of a number: the texts, the parts that they say, and the design of these.
 use Rattle.std.specs.Prelude.{◌≡◌, ℕ, List, [], ◌∷◌, ◌++◌, codes, false, None, Some, Result, Ok, Err}
 use Rattle.sf_model.specs.declared.design.Design.{Design}
-use Rattle.sf_model.specs.declared.raw.Parts.{Parts}
-use Rattle.sf_model.specs.Admitted.{IsAdmitted}
+use Rattle.sf_parts.specs.declared.raw.Parts.{Parts}
+use Rattle.sf_parts.specs.Admitted.{IsAdmitted}
 use Rattle.sf_gsrc.specs.declared.output.GsrcBlocks.{GsrcBlocks}
 use Rattle.sf_gsrc.specs.declared.output.GsrcNets.{GsrcNets}
 use Rattle.sf_gsrc.specs.declared.output.GsrcPlaces.{GsrcPlaces}

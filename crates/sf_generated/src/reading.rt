@@ -2,7 +2,7 @@
 
 ghost use Rattle.std.specs.Prelude.{◌≡◌, All, IfErr, IfOk};
 ghost use Rattle.sf_gsrc.specs.Ranges.{HasPinsInAnyRange};
-ghost use Rattle.sf_model.specs.Admitted.{IsSized};
+ghost use Rattle.sf_parts.specs.Admitted.{IsSized};
 ghost use Rattle.sf_words.specs.Seen.{gen_seen};
 ghost use Rattle.sf_designs.specs.Loads.{TellsNoLoad};
 ghost use Rattle.sf_designs.specs.Outcome.{IsFault};

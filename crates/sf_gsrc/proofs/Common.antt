@@ -35,14 +35,14 @@ pub use Rattle.sf_lex.specs.Text.{words}
 pub use Rattle.sf_lex.specs.Vertices.{box_read}
 pub use Rattle.sf_lex.specs.declared.field.Gap.TheVariants.{Blanks, Colons, Points}
 pub use Rattle.sf_lex.specs.declared.vertices.BoxSize.{BoxSize}
-pub use Rattle.sf_model.proofs.Tables.{bytes_eq_sym, place_within, position_any}
-pub use Rattle.sf_model.specs.Admitted.{HasPinsInRange, HasSizes, IsPinInRange, IsSized, at_pin_name, at_pin_names, block_names, block_of, first, first_refusal, if_both, if_neither, is_block_name, is_index, is_pad_name, is_wired, missing_places, pad_names, pad_of, unplaced_faults}
-pub use Rattle.sf_model.specs.declared.raw.Parts.{Parts}
-pub use Rattle.sf_model.specs.declared.raw.RawBlock.{RawBlock}
-pub use Rattle.sf_model.specs.declared.raw.RawNet.{RawNet}
-pub use Rattle.sf_model.specs.declared.raw.RawPad.{RawPad}
-pub use Rattle.sf_model.specs.declared.raw.RawPin.{RawPin}
-pub use Rattle.sf_model.specs.declared.raw.RawPin.TheVariants.{Named}
+pub use Rattle.sf_parts.proofs.Tables.{bytes_eq_sym, place_within, position_any}
+pub use Rattle.sf_parts.specs.Admitted.{HasPinsInRange, HasSizes, IsPinInRange, IsSized, at_pin_name, at_pin_names, block_names, block_of, first, first_refusal, if_both, if_neither, is_block_name, is_index, is_pad_name, is_wired, missing_places, pad_names, pad_of, unplaced_faults}
+pub use Rattle.sf_parts.specs.declared.raw.Parts.{Parts}
+pub use Rattle.sf_parts.specs.declared.raw.RawBlock.{RawBlock}
+pub use Rattle.sf_parts.specs.declared.raw.RawNet.{RawNet}
+pub use Rattle.sf_parts.specs.declared.raw.RawPad.{RawPad}
+pub use Rattle.sf_parts.specs.declared.raw.RawPin.{RawPin}
+pub use Rattle.sf_parts.specs.declared.raw.RawPin.TheVariants.{Named}
 pub use Rattle.std.proofs.Math.Bool.{or-true, or_assoc}
 pub use Rattle.std.proofs.lemmas.Bool.{eqb-true, le-ltb, ne_eqb, or_parts}
 pub use Rattle.std.proofs.lemmas.Bool.Decides.{eqb_tells, nat_tests}

@@ -1,9 +1,9 @@
 -- A numbered pin is of the block and of the pad of the pin that was read, so numbers change no fault of the parts.
 use Rattle.std.proofs.Common.{◌≡◌, ℕ, ◌+◌, ◌<◌, Bool, true, false, ◌&&◌, ◌||◌, cond, map, length, List, [], ◌∷◌, ◌++◌, Option, Some, None, is_some, is_none, refl, ap, sym, ◌∙◌}
 use Rattle.sf_gsrc.proofs.Common.{IfSome, flat_map, sum_by, All, list_any, bytes_eq, length-map, All-map, All-weaker, RawBlock, RawNet, RawPad, RawPin, IsPinInRange, at_pin_name, at_pin_names, block_names, block_of, first_refusal, if_both, if_neither, is_block_name, is_index, is_pad_name, is_wired, missing_places, pad_names, pad_of, unplaced_faults, by_number, has_numbers, numbered, numbered_net, numbered_nets, numbered_pin, sum_by-cons, Parts, place_within, position_any}
-use Rattle.sf_model.specs.declared.fault.BuildFault.{BuildFault}
-use Rattle.sf_model.specs.declared.fault.BuildFault.TheVariants as fault
-use Rattle.sf_model.specs.declared.raw.RawPin.TheVariants as raw
+use Rattle.sf_parts.specs.declared.fault.BuildFault.{BuildFault}
+use Rattle.sf_parts.specs.declared.fault.BuildFault.TheVariants as fault
+use Rattle.sf_parts.specs.declared.raw.RawPin.TheVariants as raw
 
 -- ---- one pin
 

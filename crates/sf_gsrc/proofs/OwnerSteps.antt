@@ -1,7 +1,7 @@
 -- The owners of names, as names come to stand before those that are there.
 use Rattle.std.proofs.Common.{◌≡◌, ℕ, ◌+◌, Bool, true, false, cond, subst, List, ◌∷◌, Option, Some, None, refl, ap, sym, ◌∙◌}
 use Rattle.sf_gsrc.proofs.Common.{position_from, bytes_eq, RawPin, by_number, owner_of, update, bytes_eq-Decides, bytes_eq_sym}
-use Rattle.sf_model.specs.declared.raw.RawPin.TheVariants as raw
+use Rattle.sf_parts.specs.declared.raw.RawPin.TheVariants as raw
 use Rattle.sf_gsrc.specs.declared.owners.Owner.{Owner}
 use Rattle.sf_gsrc.specs.declared.owners.Owner.TheVariants.{Block, Pad, Both}
 

@@ -4,9 +4,9 @@ use Rattle.std.specs.List.{filter_map}
 use Rattle.std.specs.Str.{bytes_eq}
 use Rattle.sf_lex.specs.Text.{lines, words}
 use Rattle.sf_lex.specs.Scan.{Line, numbered}
-use Rattle.sf_model.specs.declared.raw.RawBlock.{RawBlock}
-use Rattle.sf_model.specs.declared.raw.Kind.{Kind}
-use Rattle.sf_model.specs.declared.raw.Kind.TheVariants as kinds
+use Rattle.sf_parts.specs.declared.raw.RawBlock.{RawBlock}
+use Rattle.sf_parts.specs.declared.raw.Kind.{Kind}
+use Rattle.sf_parts.specs.declared.raw.Kind.TheVariants as kinds
 use Rattle.sf_gsrc.specs.declared.fault.GsrcFault.{GsrcFault}
 use Rattle.sf_gsrc.specs.declared.fault.GsrcFault.TheVariants as faults
 use Rattle.sf_gsrc.specs.declared.fault.LineFault.{LineFault}

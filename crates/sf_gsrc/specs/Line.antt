@@ -8,8 +8,8 @@ use Rattle.sf_lex.specs.declared.vertices.VertexFault.TheVariants as vertices
 use Rattle.sf_lex.specs.Text.{words}
 use Rattle.sf_lex.specs.Number.{decimal_read, area_read, signed_read}
 use Rattle.sf_lex.specs.declared.number.NumberFault.{NumberFault}
-use Rattle.sf_model.specs.declared.raw.RawBlock.{RawBlock}
-use Rattle.sf_model.specs.declared.raw.Kind.TheVariants as kinds
+use Rattle.sf_parts.specs.declared.raw.RawBlock.{RawBlock}
+use Rattle.sf_parts.specs.declared.raw.Kind.TheVariants as kinds
 use Rattle.sf_gsrc.specs.declared.fault.LineFault.{LineFault}
 use Rattle.sf_gsrc.specs.declared.fault.LineFault.TheVariants.{BadLine, BadNumber, ZeroSide}
 use Rattle.sf_lex.specs.declared.field.Gap.TheVariants.{Blanks, Points}

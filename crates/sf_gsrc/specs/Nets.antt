@@ -2,9 +2,9 @@
 use Rattle.std.specs.Prelude.{ℕ, ◌==◌, List, [], ◌∷◌, ◌++◌, length, Option, Some, None, is_some, Result, Ok, Err, if◌then◌else◌, codes}
 use Rattle.sf_lex.specs.Text.{words}
 use Rattle.sf_lex.specs.Scan.{Line}
-use Rattle.sf_model.specs.declared.raw.RawNet.{RawNet}
-use Rattle.sf_model.specs.declared.raw.RawPin.{RawPin}
-use Rattle.sf_model.specs.declared.raw.RawPin.TheVariants.{Named}
+use Rattle.sf_parts.specs.declared.raw.RawNet.{RawNet}
+use Rattle.sf_parts.specs.declared.raw.RawPin.{RawPin}
+use Rattle.sf_parts.specs.declared.raw.RawPin.TheVariants.{Named}
 use Rattle.sf_gsrc.specs.declared.fault.GsrcFault.{GsrcFault}
 use Rattle.sf_gsrc.specs.declared.fault.GsrcFault.TheVariants as faults
 use Rattle.sf_gsrc.specs.declared.fault.LineFault.{LineFault}

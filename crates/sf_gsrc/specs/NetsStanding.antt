@@ -4,8 +4,8 @@ use Rattle.std.specs.List.{AllZip, filter_map, flat_map}
 use Rattle.sf_lex.specs.Scan.{Line}
 use Rattle.sf_lex.specs.Gap.{first_word}
 use Rattle.sf_lex.specs.declared.field.Gap.TheVariants.{Blanks}
-use Rattle.sf_model.specs.declared.raw.RawNet.{RawNet}
-use Rattle.sf_model.specs.declared.raw.RawPin.TheVariants.{Named}
+use Rattle.sf_parts.specs.declared.raw.RawNet.{RawNet}
+use Rattle.sf_parts.specs.declared.raw.RawPin.TheVariants.{Named}
 use Rattle.sf_gsrc.specs.declared.net_words.NetWord.{NetWord}
 use Rattle.sf_gsrc.specs.declared.net_words.NetWord.TheVariants as net_words
 use Rattle.sf_gsrc.specs.declared.output.GsrcNets.{GsrcNets}

@@ -7,8 +7,9 @@ ghost use Rattle.sf_gsrc.specs.ByName.{IsSpots, PlacesByName, IsNameSet, GivesPa
 
 use crate::fault::JoinFault;
 use crate::output::Place;
-use sf_model::{Name, RawBlock, RawPad};
+use sf_model::Name;
 use sf_names::{NameMap, TextHash};
+use sf_parts::{RawBlock, RawPad};
 use std::alloc::{AllocError, Global};
 
 /// Where the lines of a pl file place each name, and the first line whose name stands again.

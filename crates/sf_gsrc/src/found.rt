@@ -13,7 +13,8 @@ use crate::keywords::{Counted, count_word_in, read_counted};
 use crate::line::{Statement, read_count_line, read_plain_line};
 use crate::output::GsrcBlocks;
 use sf_lex::{Scale, Word};
-use sf_model::{Kind, Name, NameList, RawBlock, RawBlockList};
+use sf_model::Name;
+use sf_parts::{Kind, NameList, RawBlock, RawBlockList};
 use std::alloc::Global;
 
 /// The counts, blocks and pads of the lines so far.

@@ -8,7 +8,8 @@ use crate::by_name::{find_strangers, place_pads};
 use crate::fault::JoinFault;
 use crate::numbering::number;
 use crate::output::{GsrcBlocks, GsrcNets, GsrcPlaces, Place};
-use sf_model::{Name, NameList, Parts, RawNetList, RawPad, RawPadList};
+use sf_model::Name;
+use sf_parts::{NameList, Parts, RawNetList, RawPad, RawPadList};
 use std::alloc::{AllocError, Global};
 
 /// The pads without a place.

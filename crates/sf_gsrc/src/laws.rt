@@ -1,8 +1,8 @@
 //! What the parts of a design keep of the files that they are joined from.
 
 ghost use Rattle.std.specs.Prelude.{◌≡◌, ℕ, List, Option, Ok, IfSome, All, length};
-ghost use Rattle.sf_model.specs.Admitted.{IsSized, HasSizes, HasPinsInRange, first_refusal};
-ghost use Rattle.sf_model.specs.declared.raw.Parts.{Parts};
+ghost use Rattle.sf_parts.specs.Admitted.{IsSized, HasSizes, HasPinsInRange, first_refusal};
+ghost use Rattle.sf_parts.specs.declared.raw.Parts.{Parts};
 ghost use Rattle.sf_gsrc.specs.declared.output.GsrcBlocks.{GsrcBlocks};
 ghost use Rattle.sf_gsrc.specs.declared.output.GsrcNets.{GsrcNets};
 ghost use Rattle.sf_gsrc.specs.declared.output.GsrcPlaces.{GsrcPlaces};

@@ -1,7 +1,7 @@
 //! Readers of GSRC floorplan benchmark files: blocks, nets and pl; and of the weights of nets, which those
 //! files lack.
 //!
-//! Each reader goes over the lines of its text once, by `sf_lex`, and makes the raw parts of `sf_model`.
+//! Each reader goes over the lines of its text once, by `sf_lex`, and makes the raw parts of `sf_parts`.
 //! The crates above use three clauses of a reader: `stands` (what is read is what the text stands for, by a
 //! relation on its lines that knows no order of work), `only` (what the text stands for is read, unless
 //! memory runs out), and `exact` (any fault is the first one, at its line and with its values).

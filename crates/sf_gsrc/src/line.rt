@@ -13,7 +13,7 @@ use sf_lex::{
     BoxSize, Gap, LENGTH_LIMIT, Scale, VertexFault, count_fields, next_field, read_area, read_box,
     read_decimal, split_word,
 };
-use sf_model::Kind;
+use sf_parts::Kind;
 
 /// What a line says that is no count line.
 #[derive(Clone, Copy)]

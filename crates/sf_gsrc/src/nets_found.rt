@@ -15,7 +15,8 @@ use crate::line::read_count_line;
 use crate::net_words::{NetWord, read_net_word};
 use crate::output::GsrcNets;
 use sf_lex::{Gap, Word, split_word};
-use sf_model::{Name, RawNet, RawNetList, RawPin, RawPins};
+use sf_model::Name;
+use sf_parts::{RawNet, RawNetList, RawPin, RawPins};
 use std::alloc::{AllocError, Global};
 use std::mem;
 

@@ -1,14 +1,14 @@
 //! Pins by the numbers of their blocks and pads.
 
 ghost use Rattle.std.specs.Prelude.{◌≡◌, List, IfOk, map};
-ghost use Rattle.sf_model.specs.Admitted.{block_names, pad_names};
-ghost use Rattle.sf_model.specs.declared.raw.RawBlock.{RawBlock};
-ghost use Rattle.sf_model.specs.declared.raw.RawPad.{RawPad};
+ghost use Rattle.sf_parts.specs.Admitted.{block_names, pad_names};
+ghost use Rattle.sf_parts.specs.declared.raw.RawBlock.{RawBlock};
+ghost use Rattle.sf_parts.specs.declared.raw.RawPad.{RawPad};
 ghost use Rattle.sf_gsrc.specs.Join.{numbered, numbered_net, numbered_nets, numbered_pin};
 ghost use Rattle.sf_gsrc.specs.Owners.{AreOwners};
 
 use crate::owners::Owners;
-use sf_model::{Parts, RawBlock, RawNet, RawNetList, RawPad, RawPin, RawPins};
+use sf_parts::{Parts, RawBlock, RawNet, RawNetList, RawPad, RawPin, RawPins};
 use std::alloc::{AllocError, Global};
 
 /// So many numbers there are.

@@ -2,16 +2,17 @@
 
 ghost use Rattle.std.specs.Prelude.{◌≡◌, ◌+◌, ◌<◌, ◌^◌, List, ℕ, [], ◌∷◌, IfOk, OnOk, Option, Some};
 ghost use Rattle.std.specs.Prelude.{unwrap_or, length};
-ghost use Rattle.sf_model.specs.Admitted.{block_names, pad_names};
-ghost use Rattle.sf_model.specs.declared.raw.RawBlock.{RawBlock};
-ghost use Rattle.sf_model.specs.declared.raw.RawPad.{RawPad};
-ghost use Rattle.sf_model.specs.declared.raw.RawPin.TheVariants.{Named};
+ghost use Rattle.sf_parts.specs.Admitted.{block_names, pad_names};
+ghost use Rattle.sf_parts.specs.declared.raw.RawBlock.{RawBlock};
+ghost use Rattle.sf_parts.specs.declared.raw.RawPad.{RawPad};
+ghost use Rattle.sf_parts.specs.declared.raw.RawPin.TheVariants.{Named};
 ghost use Rattle.sf_gsrc.specs.Join.{numbered_pin};
 ghost use Rattle.sf_gsrc.specs.Owners.{AreOwners, AreOwnersFrom, owner_of};
 
 use crate::by_name::hash_parts;
-use sf_model::{Name, RawBlock, RawPad, RawPin};
+use sf_model::Name;
 use sf_names::NameMap;
+use sf_parts::{RawBlock, RawPad, RawPin};
 use std::alloc::{AllocError, Global};
 
 /// Of what a name is: of a block, of a pad, or of both. Of several blocks or pads the first counts.

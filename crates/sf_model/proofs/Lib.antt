@@ -7,17 +7,7 @@ pub mod BlocksBelow
 pub mod Counting
 pub mod Bounded
 pub mod Walks
-pub mod Firsts
-pub mod Tables
-pub mod Ascending
-pub mod Shapeless
-pub mod Limited
-pub mod Moved
-pub mod PinsThere
-pub mod NetSets
-pub mod Designs
 pub mod Floored
-pub mod Paired
 pub mod Used
 pub mod Determined
 pub mod FirstWrong

@@ -44,7 +44,7 @@ pub use Rattle.sf_model.specs.declared.parts.Block.{Block}
 pub use Rattle.sf_model.specs.declared.parts.Shape.{Shape}
 pub use Rattle.sf_model.specs.declared.paths.Paths.{Paths}
 pub use Rattle.sf_model.specs.declared.plan.Spot.{Spot}
-pub use Rattle.sf_model.specs.declared.raw.RawBlock.{RawBlock}
+pub use Rattle.sf_parts.specs.declared.raw.RawBlock.{RawBlock}
 pub use Rattle.sf_node.specs.Full.{branches, full, full_below}
 pub use Rattle.sf_node.specs.Subproblem.{is_complete, is_solved, is_wide, root}
 pub use Rattle.sf_node.specs.declared.part.Part.{Part}

@@ -9,12 +9,12 @@ use Rattle.sf_gsrc.specs.Standing.{StandsFor}
 use Rattle.sf_gsrc.specs.declared.output.GsrcBlocks.{GsrcBlocks}
 use Rattle.sf_gsrc.specs.declared.output.GsrcNets.{GsrcNets}
 use Rattle.sf_gsrc.specs.declared.output.GsrcPlaces.{GsrcPlaces}
-use Rattle.sf_model.specs.declared.raw.Parts.{Parts}
+use Rattle.sf_parts.specs.declared.raw.Parts.{Parts}
 use Rattle.sf_soft_shapes.specs.Listed.{AreListsOf}
 use Rattle.sf_program.proofs.Common.{Bool, codes, Contents, Design, Block, Input, gsrc, yal, DesignOptions, PlanOptions, WeightOptions, AtMostOne, GivesOne, HasBlocksOf, Refusal, Then, BudgetTested, BudgetedDesign, CountTested, budget_of, Admitted, BlocksRead, Built, DesignMade, DesignRead, GsrcRead, IfNamed, JoinedRead, Judged, ListsMade, NetsRead, PartsAdmitted, PartsRead, PlacesRead, Said, TextRead, Weighed, WeightsRead, YalRead, YalWeighed, outline_of, weights_of, build_refusal, gsrc_refusal, join_refusal, weight_refusal, yal_refusal, WeighedParts, Shape, RawBlock, PlacedRead, WeighedRead, WiredRead}
-use Rattle.sf_model.specs.declared.fault.BuildFault.TheVariants.{NoShape}
-use Rattle.sf_model.specs.Built.{design_blocks, first_shapeless}
-use Rattle.sf_model.proofs.Determined.{determined}
+use Rattle.sf_parts.specs.declared.fault.BuildFault.TheVariants.{NoShape}
+use Rattle.sf_parts.specs.Built.{design_blocks, first_shapeless}
+use Rattle.sf_parts.proofs.Determined.{determined}
 use Rattle.sf_soft_shapes.proofs.Determined.{all-lists, one-fault, fault-empty}
 use Rattle.sf_gsrc.specs.Weights.{weights_read, WeightsStandFor}
 use Rattle.sf_gsrc.proofs.StandingLaws as block_laws

@@ -5,7 +5,7 @@ use Rattle.sf_place.proofs.Legality.{none_without}
 use Rattle.sf_program.proofs.Once.{GivesAlike, named-alike, then-alike, unseen, with-alike}
 use Rattle.sf_program.proofs.OneDesign.{admitted-parts, budgeted-made, budgeted-one, made-blocks, parts-admitted-one}
 use Rattle.sf_program.proofs.PlacedSpots.{spots-one, spots-stand}
-use Rattle.sf_model.specs.declared.raw.Parts.{Parts}
+use Rattle.sf_parts.specs.declared.raw.Parts.{Parts}
 
 -- one block is the first whose spot isn't as P says
 one-first : (P : Spot → Type 0) (spots : List Spot) (a b : ℕ) → IsFirstWithout P spots a → IsFirstWithout P spots b → a ≡ b

@@ -1,7 +1,7 @@
 -- What `plan` reads where no placement is given.
 use Rattle.std.proofs.Common.{◌≡◌, inl, inr, Option, None, Ok, Err, refl, sym, subst, ap}
 use Rattle.sf_program.proofs.Common.{Beginning, BeginRead, Contents, Design, IfNamed, PlacementRead, PlanDesign, PlanInput, PlanOptions, Refusal, softness}
-use Rattle.sf_model.specs.declared.raw.Parts.{Parts}
+use Rattle.sf_parts.specs.declared.raw.Parts.{Parts}
 
 -- a design is refused before what its search begins with is read
 pub refused-first : (held : Option Contents) (o : PlanOptions) (why : Refusal) → PlanDesign held o (Err why) → PlanInput held o (Err why)

@@ -3,10 +3,10 @@ use Rattle.std.specs.Prelude.{◌≡◌, ℕ, ◌⊎◌, List, [], ◌∷◌, ma
 use Rattle.sf_io.specs.Outside.{Contents}
 use Rattle.sf_model.specs.declared.design.Design.{Design}
 use Rattle.sf_model.specs.declared.plan.Spot.{Spot}
-use Rattle.sf_model.specs.declared.raw.Kind.{Kind}
-use Rattle.sf_model.specs.declared.raw.Kind.TheVariants.{Hard, Soft}
-use Rattle.sf_model.specs.declared.raw.Parts.{Parts}
-use Rattle.sf_model.specs.declared.raw.RawBlock.{RawBlock}
+use Rattle.sf_parts.specs.declared.raw.Kind.{Kind}
+use Rattle.sf_parts.specs.declared.raw.Kind.TheVariants.{Hard, Soft}
+use Rattle.sf_parts.specs.declared.raw.Parts.{Parts}
+use Rattle.sf_parts.specs.declared.raw.RawBlock.{RawBlock}
 use Rattle.sf_anneal.specs.declared.beginning.Beginning.{Beginning}
 use Rattle.sf_cuts.specs.Cuts.{IsSlicing}
 use Rattle.sf_cuts.specs.Packed.{HasShapeFor}

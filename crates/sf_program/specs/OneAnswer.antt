@@ -4,8 +4,8 @@ use Rattle.std.specs.Io.KnownBytes.{Appends}
 use Rattle.sf_io.specs.Outside.{Contents}
 use Rattle.sf_io.specs.declared.status.Status.{Status}
 use Rattle.sf_model.specs.declared.design.Design.{Design}
-use Rattle.sf_model.specs.declared.raw.RawBlock.{RawBlock}
-use Rattle.sf_model.specs.Admitted.{block_names}
+use Rattle.sf_parts.specs.declared.raw.RawBlock.{RawBlock}
+use Rattle.sf_parts.specs.Admitted.{block_names}
 use Rattle.sf_model.specs.Legal.{block_count}
 use Rattle.sf_words.specs.Meaning.{Command, plan, resume, Means}
 use Rattle.sf_words.specs.declared.command.BoundsChoice.TheVariants.{Strong}

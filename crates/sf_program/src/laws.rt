@@ -17,7 +17,7 @@ ghost use Rattle.sf_designs.specs.Weighed.{WeighedParts};
 
 use sf_certificate::{first_parts_are_one, full_parts_close};
 use sf_curves::traces_are_one;
-use sf_model::designs_are_determined;
+use sf_parts::designs_are_determined;
 use sf_place::verdicts_are_one;
 use sf_search::certificates_are_one;
 use sf_soft_shapes::lists_are_determined;

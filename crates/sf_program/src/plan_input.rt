@@ -21,7 +21,8 @@ use sf_io::Shelf;
 use sf_known::packed_beginning;
 use sf_lex::Scale;
 use sf_measuring::read_spots;
-use sf_model::{Design, Kind, Parts, Spot, admitted_parts_keep_limits};
+use sf_model::{Design, Spot};
+use sf_parts::{Kind, Parts, admitted_parts_keep_limits};
 use sf_words::PlanWords;
 use std::alloc::{AllocError as NoMemory, Global};
 

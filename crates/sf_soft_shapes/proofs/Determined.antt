@@ -1,9 +1,9 @@
 -- A block has one list: also where no width is allowed, though then any empty interval tells its widths.
 use Rattle.std.proofs.Common.{◌≡◌, ℕ, ◌<◌, ◌≤◌, ◌⊎◌, inl, inr, Bool, true, List, [], ◌∷◌, length, map, Option, Some, None, refl, ap, sym, ◌∙◌, arith, nat_le, option_map}
 use Rattle.sf_soft_shapes.proofs.Common.{AllByRecursion, zip, nat_tests, Shape, RawBlock, AreFirstLists, AreListsOf, HasNoneFor, IsListOf, height_at, shape, width_count, widths, recursion_from_All, cases_lt, first_shapeless, NoShape}
-use Rattle.sf_model.specs.declared.fault.BuildFault.{BuildFault}
-use Rattle.sf_model.specs.declared.raw.Kind.{Kind}
-use Rattle.sf_model.specs.declared.raw.Kind.TheVariants as kind
+use Rattle.sf_parts.specs.declared.fault.BuildFault.{BuildFault}
+use Rattle.sf_parts.specs.declared.raw.Kind.{Kind}
+use Rattle.sf_parts.specs.declared.raw.Kind.TheVariants as kind
 
 -- an empty interval has no width
 no_width : (k lo hi : ℕ) → hi < lo → widths k lo hi ≡ []

@@ -3,13 +3,13 @@ use Rattle.std.specs.Prelude.{◌≡◌, Some, ℕ, ◌+◌, ◌-◌, ◌*◌, �
 use Rattle.std.specs.Int.{div_ceil}
 use Rattle.std.specs.List.{range_with_len}
 use Rattle.std.specs.Option.{option_map}
-use Rattle.sf_model.specs.Built.{first_shapeless}
-use Rattle.sf_model.specs.declared.fault.BuildFault.{BuildFault}
-use Rattle.sf_model.specs.declared.fault.BuildFault.TheVariants.{NoShape}
+use Rattle.sf_parts.specs.Built.{first_shapeless}
+use Rattle.sf_parts.specs.declared.fault.BuildFault.{BuildFault}
+use Rattle.sf_parts.specs.declared.fault.BuildFault.TheVariants.{NoShape}
 use Rattle.sf_model.specs.declared.parts.Shape.{Shape}
-use Rattle.sf_model.specs.declared.raw.Kind.{Kind}
-use Rattle.sf_model.specs.declared.raw.Kind.TheVariants as kind
-use Rattle.sf_model.specs.declared.raw.RawBlock.{RawBlock}
+use Rattle.sf_parts.specs.declared.raw.Kind.{Kind}
+use Rattle.sf_parts.specs.declared.raw.Kind.TheVariants as kind
+use Rattle.sf_parts.specs.declared.raw.RawBlock.{RawBlock}
 
 -- the shape of these sides
 abbrev pub shape : ℕ → ℕ → Shape

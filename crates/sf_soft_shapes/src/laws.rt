@@ -2,12 +2,12 @@
 
 ghost use Rattle.std.specs.Prelude.{◌≡◌, ℕ, Bool, List, Some};
 ghost use Rattle.std.specs.Option.{option_map};
-ghost use Rattle.sf_model.specs.Built.{first_shapeless};
-ghost use Rattle.sf_model.specs.declared.fault.BuildFault.{BuildFault};
-ghost use Rattle.sf_model.specs.declared.fault.BuildFault.TheVariants.{NoShape};
+ghost use Rattle.sf_parts.specs.Built.{first_shapeless};
+ghost use Rattle.sf_parts.specs.declared.fault.BuildFault.{BuildFault};
+ghost use Rattle.sf_parts.specs.declared.fault.BuildFault.TheVariants.{NoShape};
 ghost use Rattle.sf_model.specs.declared.parts.Shape.{Shape};
-ghost use Rattle.sf_model.specs.declared.raw.Kind.{Kind};
-ghost use Rattle.sf_model.specs.declared.raw.RawBlock.{RawBlock};
+ghost use Rattle.sf_parts.specs.declared.raw.Kind.{Kind};
+ghost use Rattle.sf_parts.specs.declared.raw.RawBlock.{RawBlock};
 ghost use Rattle.sf_soft_shapes.specs.Listed.{IsListOf, AreListsOf, HasNoneFor};
 
 /// A block has at most one list, and blocks have at most one list each. At most one block is the first

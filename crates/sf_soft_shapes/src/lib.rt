@@ -1,6 +1,6 @@
 //! The list of shapes of each block: a hard block as it stands and, unless it is fixed, turned; a soft block
 //! at whole widths whose height over width lies within its limits, all of them or some at equal steps. It
-//! stands on the model. The crates above use that the lists are those of `AreListsOf`, and that they are
+//! stands on `sf_parts`. The crates above use that the lists are those of `AreListsOf`, and that they are
 //! what `Design::build` asks for.
 #![tactic(auto)]
 

@@ -1,16 +1,17 @@
 //! The lists of shapes of all blocks.
 
 ghost use Rattle.std.specs.Prelude.{◌≡◌, ◌≢◌, ◌≤◌, [], IfOk, IfErr, None, length};
-ghost use Rattle.sf_model.specs.Admitted.{IsAdmitted, HasSizes, IsSized, IsKindWithin};
-ghost use Rattle.sf_model.specs.Built.{HasShapeChoices, first_shapeless};
+ghost use Rattle.sf_parts.specs.Admitted.{IsAdmitted, HasSizes, IsSized, IsKindWithin};
+ghost use Rattle.sf_parts.specs.Built.{HasShapeChoices, first_shapeless};
 ghost use Rattle.sf_model.specs.Limits.{IsShapeChoice};
-ghost use Rattle.sf_model.specs.declared.fault.BuildFault.TheVariants.{NoShape, NoMemory};
+ghost use Rattle.sf_parts.specs.declared.fault.BuildFault.TheVariants.{NoShape, NoMemory};
 ghost use Rattle.sf_soft_shapes.specs.Listed.{IsListOf, AreListsOf, HasNoneFor};
 
 use crate::fault::ShapeFault;
 use crate::hard::hard_shapes;
 use crate::soft::soft_shapes;
-use sf_model::{BuildFault, Kind, Name, Parts, Shapes, admitted_parts_keep_limits};
+use sf_model::{Name, Shapes};
+use sf_parts::{BuildFault, Kind, Parts, admitted_parts_keep_limits};
 use std::alloc::Global;
 
 /// The list of shapes of a block.

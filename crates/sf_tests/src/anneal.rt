@@ -2,8 +2,8 @@
 
 ghost use Rattle.std.specs.Prelude.{◌≡◌, ◌+◌, ◌<◌, ◌≤◌, All, IfOk, IfSome};
 ghost use Rattle.sf_gsrc.specs.Ranges.{HasPinsInAnyRange};
-ghost use Rattle.sf_model.specs.Admitted.{HasPinsInRange, HasSizes, IsSized};
-ghost use Rattle.sf_model.specs.Built.{IsOutline};
+ghost use Rattle.sf_parts.specs.Admitted.{HasPinsInRange, HasSizes, IsSized};
+ghost use Rattle.sf_parts.specs.Built.{IsOutline};
 
 use rand_pcg::Lcg64Xsh32;
 use sf_anneal::{
@@ -15,7 +15,8 @@ use sf_gsrc::{
     GsrcBlocks, GsrcNets, GsrcPlaces, blocks_have_sizes, join_parts, joined_parts_keep_ranges,
     nets_name_their_pins, read_blocks, read_nets, read_pl,
 };
-use sf_model::{Design, Outline, Parts, Weights};
+use sf_model::{Design, Outline, Weights};
+use sf_parts::{Build, Parts};
 use sf_polish::{Expr, Token, Tokens, is_normal, push_expr};
 use sf_soft_shapes::lists;
 use std::alloc::{AllocError, Global};

@@ -4,7 +4,7 @@ use sf_gsrc::{
     GsrcFault, JoinFault, WeightFault, join_parts, read_blocks, read_nets, read_pl, read_weights,
 };
 use sf_lex::NumberFault;
-use sf_model::{Kind, Parts};
+use sf_parts::{Kind, Parts};
 use std::alloc::Global;
 use std::test::Fail;
 

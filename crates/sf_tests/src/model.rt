@@ -1,12 +1,13 @@
 //! Admission of small parts, and their design.
 
 ghost use Rattle.std.specs.Prelude.{◌≡◌, length, vec_len, All, IfOk};
-ghost use Rattle.sf_model.specs.Admitted.{IsAdmitted, HasPinsInRange};
+ghost use Rattle.sf_parts.specs.Admitted.{IsAdmitted, HasPinsInRange};
 ghost use Rattle.sf_model.specs.Limits.{IsShapeChoice};
 
-use sf_model::{
-    BuildFault, Design, Kind, Limit, Name, NameList, Outline, Parts, Pin, RawBlock, RawBlockList,
-    RawNet, RawNetList, RawPad, RawPadList, RawPin, RawPins, Shape, Shapes, Weights,
+use sf_model::{Design, Name, Outline, Pin, Shape, Shapes, Weights};
+use sf_parts::{
+    Build, BuildFault, Kind, Limit, NameList, Parts, RawBlock, RawBlockList, RawNet, RawNetList,
+    RawPad, RawPadList, RawPin, RawPins,
 };
 use std::alloc::{AllocError, Global};
 

@@ -3,7 +3,7 @@
 ghost use Rattle.std.specs.Prelude.{◌≤◌, length};
 
 use sf_lex::NumberFault;
-use sf_model::{Kind, Parts, RawPin};
+use sf_parts::{Kind, Parts, RawPin};
 use sf_yal::{YalFault, read_yal, yal_losses};
 use std::alloc::{AllocError, Global};
 

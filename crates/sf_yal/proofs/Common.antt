@@ -1,11 +1,11 @@
 -- The imports that the proof files of this crate share.
 pub use Rattle.sf_lex.specs.Text.{is_blank_byte, words}
 pub use Rattle.sf_lex.specs.declared.vertices.BoxSize.{BoxSize}
-pub use Rattle.sf_model.specs.declared.raw.Parts.{Parts}
-pub use Rattle.sf_model.specs.declared.raw.RawBlock.{RawBlock}
-pub use Rattle.sf_model.specs.declared.raw.RawNet.{RawNet}
-pub use Rattle.sf_model.specs.declared.raw.RawPad.{RawPad}
-pub use Rattle.sf_model.specs.declared.raw.RawPin.{RawPin}
+pub use Rattle.sf_parts.specs.declared.raw.Parts.{Parts}
+pub use Rattle.sf_parts.specs.declared.raw.RawBlock.{RawBlock}
+pub use Rattle.sf_parts.specs.declared.raw.RawNet.{RawNet}
+pub use Rattle.sf_parts.specs.declared.raw.RawPad.{RawPad}
+pub use Rattle.sf_parts.specs.declared.raw.RawPin.{RawPin}
 pub use Rattle.sf_names.proofs.Indexes.{index_bound, none_under, push_other, some_not_none}
 pub use Rattle.sf_names.specs.Names.{Once, bytes_of, has_name, index_of}
 pub use Rattle.sf_yal.specs.Box.{is_no_outline, length_read, number_in, vertex_fault, ◌>>=◌}

@@ -1,8 +1,8 @@
 -- The nets that are kept signal by signal are those of the distinct signals.
 use Rattle.std.proofs.Common.{◌≡◌, inl, inr, ℕ, suc, ◌+◌, true, false, List, [], ◌∷◌, ◌++◌, length, Option, Some, None, refl, sym, ap, ◌∙◌, arith, append_assoc, length-append, bytes_eq}
 use Rattle.sf_yal.proofs.Common.{map, is_some, fold-append, option_map, cases_Bool, append-nil, map-append, RawNet, RawPin, Once, index_of, has_name, with_signal, with_signals, signals_of, block_pins, net_of, nets_of, Uses, nothing_used, with_pin, with_pin_at, used_at, used_once, used_all, used_by, with_pads}
-use Rattle.sf_model.specs.declared.raw.RawPin.TheVariants as pins
-use Rattle.sf_model.proofs.Tables.{bytes_eq_sym}
+use Rattle.sf_parts.specs.declared.raw.RawPin.TheVariants as pins
+use Rattle.sf_parts.proofs.Tables.{bytes_eq_sym}
 use Rattle.sf_yal.proofs.SignalPins.{Signals, same_name, has_push_same, has_push_other, pin_of, pins_last, low, with_pin_by, none_cons, once_uses, absent_uses}
 
 -- the net of a signal without its pad

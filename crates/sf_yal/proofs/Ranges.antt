@@ -2,8 +2,8 @@
 use Rattle.std.proofs.Common.{◌≡◌, inl, inr, ℕ, ◌+◌, ◌≤◌, ◌<◌, List, [], ◌∷◌, length, map, Option, Some, None, ap, sym, subst, ◌∙◌, arith, All}
 use Rattle.sf_yal.proofs.Common.{IfSome, AllZip, cases_Bool, length-map, RawBlock, RawNet, RawPad, RawPin, Parts, index_of, has_name, IsBlockOf, Instance, Module, modules, pads_of, instances_of, block_pins, pad_pins, net_of, signals_of, StandsFor, All-nil, All-cons, All-append, index_bound}
 use Rattle.std.proofs.lemmas.Slice.Zip.{AllZip-long}
-use Rattle.sf_model.specs.Admitted.{IsPinInRange, IsSized, HasSizes, HasPinsInRange}
-use Rattle.sf_model.specs.declared.raw.RawPin.TheVariants as pins
+use Rattle.sf_parts.specs.Admitted.{IsPinInRange, IsSized, HasSizes, HasPinsInRange}
+use Rattle.sf_parts.specs.declared.raw.RawPin.TheVariants as pins
 
 -- ---- sizes
 

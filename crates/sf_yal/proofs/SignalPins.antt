@@ -2,8 +2,8 @@
 use Rattle.std.proofs.Common.{◌≡◌, inl, inr, ℕ, suc, ◌+◌, ◌<◌, ◌≤◌, Bool, true, false, cond, List, [], ◌∷◌, ◌++◌, length, Option, Some, None, refl, sym, ap, ◌∙◌, arith, length-append, eq-eqb, ◌-◌, bytes_eq}
 use Rattle.sf_yal.proofs.Common.{fold, is_some, slice_get, option_map, append-nil, cases_Bool, false_from_ne_true, ne_eqb, true≢false, RawPin, index_of, has_name, Once, with_signal, with_signals, block_pins, is_block, is_some_block, ends_with, with_pin, push_other, none_under, some_not_none}
 use Rattle.std.proofs.lemmas.Slice.Eq.{bytes_eq-Decides}
-use Rattle.sf_model.proofs.Tables.{bytes_eq_sym}
-use Rattle.sf_model.specs.declared.raw.RawPin.TheVariants as pins
+use Rattle.sf_parts.proofs.Tables.{bytes_eq_sym}
+use Rattle.sf_parts.specs.declared.raw.RawPin.TheVariants as pins
 
 -- names of signals
 abbrev pub Signals : Type 0

@@ -1,9 +1,9 @@
 -- The fault of a statement, by where it stands, and that of an instance.
 use Rattle.std.specs.Prelude.{◌≡◌, ◌≢◌, ◌⊎◌, ℕ, ◌<◌, ◌&&◌, ◌||◌, List, [], ◌∷◌, ◌++◌, map, Option, Some, None, is_some, Result, Ok, Err, if◌then◌else◌, slice_get}
 use Rattle.std.specs.List.{AllZip, list_any}
-use Rattle.sf_model.specs.declared.raw.Kind.TheVariants as kinds
-use Rattle.sf_model.specs.declared.raw.RawBlock.{RawBlock}
-use Rattle.sf_model.specs.declared.raw.RawPad.{RawPad}
+use Rattle.sf_parts.specs.declared.raw.Kind.TheVariants as kinds
+use Rattle.sf_parts.specs.declared.raw.RawBlock.{RawBlock}
+use Rattle.sf_parts.specs.declared.raw.RawPad.{RawPad}
 use Rattle.sf_names.specs.Names.{has_name, index_of}
 use Rattle.sf_yal.specs.declared.fault.YalFault.{YalFault}
 use Rattle.sf_yal.specs.declared.fault.YalFault.TheVariants.{BadStatement, BadNumber, TwoParents, UnknownModule, ZeroSide}

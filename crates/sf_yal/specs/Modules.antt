@@ -3,7 +3,7 @@ use Rattle.std.specs.Prelude.{◌≡◌, ⊤, ℕ, suc, Bool, true, false, ◌&&
 use Rattle.std.specs.List.{list_any}
 use Rattle.std.specs.Option.{option_map, option_or}
 use Rattle.sf_lex.specs.declared.number.NumberFault.{NumberFault}
-use Rattle.sf_model.specs.declared.raw.RawPad.{RawPad}
+use Rattle.sf_parts.specs.declared.raw.RawPad.{RawPad}
 use Rattle.sf_names.specs.Names.{has_name}
 use Rattle.sf_yal.specs.declared.fault.YalFault.{YalFault}
 use Rattle.sf_yal.specs.declared.keyword.Keyword.{Keyword}

@@ -1,8 +1,8 @@
 -- The nets: one for each distinct signal.
 use Rattle.std.specs.Prelude.{ℕ, ◌+◌, List, [], ◌∷◌, ◌++◌, map, fold, Option, Some, None, if◌then◌else◌}
-use Rattle.sf_model.specs.declared.raw.RawNet.{RawNet}
-use Rattle.sf_model.specs.declared.raw.RawPin.{RawPin}
-use Rattle.sf_model.specs.declared.raw.RawPin.TheVariants as pins
+use Rattle.sf_parts.specs.declared.raw.RawNet.{RawNet}
+use Rattle.sf_parts.specs.declared.raw.RawPin.{RawPin}
+use Rattle.sf_parts.specs.declared.raw.RawPin.TheVariants as pins
 use Rattle.sf_names.specs.Names.{index_of, has_name}
 
 -- the signals in the order of their first use, each once

@@ -1,8 +1,8 @@
 -- What a text stands for, and its first fault if it stands for nothing.
 use Rattle.std.specs.Prelude.{ℕ, Bool, true, ◌&&◌, ◌||◌, not, is_some, ◌==◌, List, [], ◌∷◌, ◌++◌, map, Option, Some, None, Result, Ok, Err, if◌then◌else◌, slice_get}
-use Rattle.sf_model.specs.declared.raw.RawBlock.{RawBlock}
-use Rattle.sf_model.specs.declared.raw.Kind.TheVariants as kinds
-use Rattle.sf_model.specs.declared.raw.Parts.{Parts}
+use Rattle.sf_parts.specs.declared.raw.RawBlock.{RawBlock}
+use Rattle.sf_parts.specs.declared.raw.Kind.TheVariants as kinds
+use Rattle.sf_parts.specs.declared.raw.Parts.{Parts}
 use Rattle.sf_yal.specs.declared.fault.YalFault.{YalFault}
 use Rattle.sf_yal.specs.declared.fault.YalFault.TheVariants as faults
 use Rattle.sf_lex.specs.declared.vertices.BoxSize.{BoxSize}

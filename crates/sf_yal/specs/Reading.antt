@@ -3,7 +3,7 @@
 use Rattle.std.specs.Prelude.{◌≡◌, ℕ, true, false, ◌||◌, ◌&&◌, not, List, [], ◌∷◌, ◌++◌, length, Option, Some, None, is_some, Result, Ok, Err, if◌then◌else◌, ℤ}
 use denote.Ref.{Bor}
 use Rattle.sf_lex.specs.declared.number.NumberFault.{NumberFault}
-use Rattle.sf_model.specs.declared.raw.RawPad.{RawPad}
+use Rattle.sf_parts.specs.declared.raw.RawPad.{RawPad}
 use Rattle.sf_yal.specs.declared.fault.YalFault.{YalFault}
 use Rattle.sf_yal.specs.declared.fault.YalFault.TheVariants as faults
 use Rattle.sf_yal.specs.declared.keyword.Keyword.{Keyword}

@@ -1,7 +1,7 @@
 -- What a YAL text stands for, and the first fault of one that stands for nothing.
 use Rattle.std.specs.Prelude.{◌≡◌, ◌≢◌, ◌⊎◌, ℕ, true, false, List, [], ◌∷◌, ◌++◌, map, Option, Some, None}
 use Rattle.std.specs.List.{AllZip}
-use Rattle.sf_model.specs.declared.raw.Parts.{Parts}
+use Rattle.sf_parts.specs.declared.raw.Parts.{Parts}
 use Rattle.sf_yal.specs.declared.fault.YalFault.{YalFault}
 use Rattle.sf_yal.specs.declared.fault.YalFault.TheVariants.{Truncated, NoParent}
 use Rattle.sf_yal.specs.Statements.{statements_of, is_ended, last_line}

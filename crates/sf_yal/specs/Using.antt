@@ -1,9 +1,9 @@
 -- The nets as the code finds them, signal by signal.
 use Rattle.std.specs.Prelude.{ℕ, zero, suc, ◌+◌, ◌-◌, Bool, false, ◌==◌, List, [], ◌∷◌, ◌++◌, length, map, fold, Option, Some, None, if◌then◌else◌, slice_get}
 use Rattle.sf_lex.specs.Text.{words, is_blank_byte}
-use Rattle.sf_model.specs.declared.raw.RawNet.{RawNet}
-use Rattle.sf_model.specs.declared.raw.RawPin.{RawPin}
-use Rattle.sf_model.specs.declared.raw.RawPin.TheVariants as pins
+use Rattle.sf_parts.specs.declared.raw.RawNet.{RawNet}
+use Rattle.sf_parts.specs.declared.raw.RawPin.{RawPin}
+use Rattle.sf_parts.specs.declared.raw.RawPin.TheVariants as pins
 use Rattle.sf_yal.specs.declared.instance.Instance as code
 use Rattle.sf_yal.specs.declared.nets.Used as kept
 use Rattle.sf_names.specs.Names.{index_of}

@@ -10,8 +10,8 @@ ghost use Rattle.sf_yal.specs.Parts.{size_at, boxed, block_of, blocks_from, unkn
 use crate::fault::YalFault;
 use crate::instance::Instance;
 use sf_lex::BoxSize;
-use sf_model::{Kind, RawBlock};
 use sf_names::Names;
+use sf_parts::{Kind, RawBlock};
 use std::alloc::Global;
 
 /// The box of the module at a place, if it has one.

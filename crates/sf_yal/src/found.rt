@@ -12,8 +12,9 @@ use crate::open_module::{OpenModule, Section};
 use crate::piece::next_word;
 use crate::vertices::{number_at, read_dimensions, read_length};
 use sf_lex::{BoxSize, NumberFault, Scale};
-use sf_model::{Name, RawPad};
+use sf_model::Name;
 use sf_names::{Names, TextHash};
+use sf_parts::RawPad;
 use std::alloc::{AllocError, Global};
 
 /// What is kept of the statements: the module that is open; the names of all modules, and the boxes of

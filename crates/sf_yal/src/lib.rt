@@ -4,7 +4,7 @@
 //! statements are cut into modules and their sections, and the module of the type PARENT holds the
 //! instances of the others. `read_yal` gives the design that a text stands for: a hard block for each
 //! instance, with the box of its module; a net for each distinct signal; and a pad for each terminal of
-//! the parent that has a place. The crate stands on `sf_lex` for words and numbers, and on `sf_model`
+//! the parent that has a place. The crate stands on `sf_lex` for words and numbers, and on `sf_parts`
 //! for the parts of a design. The crates above use the clauses of `read_yal`: by `found` and `only` it
 //! reads what the text stands for and nothing else, by `refused` and `faulty` it answers the first fault
 //! of a text that stands for nothing, and `exact` says both by a function. `stands_for_one` says that a

@@ -4,14 +4,14 @@ ghost use Rattle.std.specs.Prelude.{◌≡◌, ◌∷◌, ◌++◌, [], None, If
 ghost use Rattle.sf_lex.specs.Text.{words, is_blank_byte};
 ghost use Rattle.sf_names.specs.Names.{index_of, bytes_of};
 ghost use Rattle.sf_yal.specs.Nets.{nets_of};
-ghost use Rattle.sf_model.specs.declared.raw.RawPin.TheVariants.{Block};
+ghost use Rattle.sf_parts.specs.declared.raw.RawPin.TheVariants.{Block};
 ghost use Rattle.sf_yal.specs.Using.{signals_in, used_in, used_once, used_all, used_by};
 ghost use Rattle.sf_yal.specs.Using.{with_pin, with_pin_at, with_pad_of, with_pads, ends_with, nothing_used};
 
 use crate::instance::Instance;
 use crate::piece::next_word;
-use sf_model::{RawNet, RawNetList, RawPin, RawPins};
 use sf_names::{Names, TextHash};
+use sf_parts::{RawNet, RawNetList, RawPin, RawPins};
 use std::alloc::{AllocError, Global};
 use std::mem;
 

@@ -1,7 +1,7 @@
 //! The reader of YAL files.
 
 ghost use Rattle.std.specs.Prelude.{◌≡◌, ◌≤◌, ◌⊎◌, ℕ, List, length, Some, Ok, Err, IfOk, IfErr};
-ghost use Rattle.sf_model.specs.declared.raw.Parts.{Parts};
+ghost use Rattle.sf_parts.specs.declared.raw.Parts.{Parts};
 ghost use Rattle.sf_yal.specs.Standing.{StandsFor, HasFault};
 ghost use Rattle.sf_yal.specs.declared.fault.YalFault.{YalFault as Fault};
 ghost use Rattle.sf_yal.specs.declared.fault.YalFault.TheVariants.{NoMemory};
@@ -16,7 +16,7 @@ use crate::found::{Found, Words};
 use crate::nets::read_nets;
 use crate::piece::{first_line, last_line_of, next_piece, next_word};
 use sf_lex::{Scale, line_feeds};
-use sf_model::{NameList, Parts, RawBlockList, RawPadList};
+use sf_parts::{NameList, Parts, RawBlockList, RawPadList};
 use std::alloc::Global;
 use std::mem;
 

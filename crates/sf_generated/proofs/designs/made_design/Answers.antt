@@ -4,8 +4,8 @@ use Rattle.sf_gsrc.proofs.PlaceLaws as places
 use Rattle.sf_gsrc.proofs.StandingLaws as blocks
 use Rattle.sf_designs.specs.Weighed.{alike, weighed_in}
 use Rattle.sf_generated.specs.Made.{TextsStand, both_weights, by_default}
-use Rattle.sf_model.specs.Admitted.{IsAdmitted}
-use Rattle.sf_model.specs.declared.raw.Parts.{Parts}
+use Rattle.sf_parts.specs.Admitted.{IsAdmitted}
+use Rattle.sf_parts.specs.declared.raw.Parts.{Parts}
 use Rattle.sf_generated.proofs.Common.{gen_seen, kinds_of, parts_made, HasNoneFor, Ends, DesignMade, WeighedParts, BuildFault}
 use Rattle.sf_generated.proofs.Made.{made-never, made-ok}
 use Rattle.sf_generated.proofs.designs.made_design.Goals as goal

@@ -1,5 +1,0 @@
-use Rattle.sf_model.proofs.Limited.{limits_kept}
-use Rattle.sf_model.proofs.admit.admitted_parts_keep_limits.Goals as goal
-
-pub returns : goal.returns
-returns c = limits_kept

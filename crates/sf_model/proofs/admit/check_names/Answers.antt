@@ -1,6 +1,0 @@
-use Rattle.std.proofs.Common.{subst}
-use Rattle.sf_model.proofs.Common.{IsFirstOf, name_faults, Parts}
-use Rattle.sf_model.proofs.admit.check_names.Goals as goal
-
-pub returns : goal.returns
-returns c = let P : Parts → Type 0 = λ parts. IsFirstOf (name_faults parts) c.check_index.result in subst P c.in_ok-index.ensures c.check_index.ensures

@@ -1,7 +1,0 @@
-use Rattle.std.proofs.Common.{◌∙◌}
-use Rattle.sf_model.proofs.Common.{block_names}
-use Rattle.sf_model.proofs.Tables.{table_has}
-use Rattle.sf_model.proofs.index.Index.is_block.Goals as goal
-
-pub returns : goal.returns
-returns c = c.has.ensures ∙ table_has c.args.self.now.blocks (block_names c.args.self.now.parts.now.blocks) c.args.self.now.of_blocks c.args.name.now

@@ -1,5 +1,0 @@
-use Rattle.sf_model.proofs.Ascending.{IsSetOfFirst}
-use Rattle.sf_model.proofs.nets.set_of.Given as goal
-
-abbrev pub invariant-loop-pin : goal.invariant-loop-pin
-invariant-loop-pin l = IsSetOfFirst l.pins l.pin-index l.next l.set.items
