@@ -37,8 +37,9 @@ pub use Rattle.sf_model.specs.declared.paths.Paths.{Paths}
 pub use Rattle.sf_model.specs.declared.paths.Step.{Step}
 pub use Rattle.sf_node.specs.declared.part.Part.{Part}
 pub use Rattle.sf_node.specs.declared.part.Part.TheVariants.{Area, Full, Hull, Pair, Range}
-pub use Rattle.sf_polish.proofs.WordTexts.{all-weaker, below}
-pub use Rattle.sf_polish.specs.Text.{IsWritable, expr_text, shaped_text}
+pub use Rattle.sf_expr_text.proofs.WordTexts.{all-weaker, below}
+pub use Rattle.sf_polish.specs.Writable.{IsWritable}
+pub use Rattle.sf_expr_text.specs.Text.{expr_text, shaped_text}
 pub use Rattle.sf_polish.specs.declared.expr.Expr.{Expr}
 pub use Rattle.sf_polish.specs.declared.expr.Token.{Token}
 pub use Rattle.std.proofs.lemmas.Bool.{and_from, and_parts, cases_lt, eq-eqb, eqb-true}

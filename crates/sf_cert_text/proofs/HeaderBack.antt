@@ -5,9 +5,9 @@ use Rattle.sf_model.specs.declared.TheConstants.{MAX}
 use Rattle.sf_polish.specs.declared.expr.Token.TheVariants as token
 use Rattle.sf_polish.specs.Normal.{is_outside}
 use Rattle.sf_polish.specs.Postfix.{shape_at}
-use Rattle.sf_polish.specs.Reading.{expr_read}
-use Rattle.sf_polish.proofs.Respelled.{expr-written}
-use Rattle.sf_polish.proofs.TextLaws.{spelled-expr}
+use Rattle.sf_expr_text.specs.Reading.{expr_read}
+use Rattle.sf_expr_text.proofs.Respelled.{expr-written}
+use Rattle.sf_expr_text.proofs.TextLaws.{spelled-expr}
 use Rattle.sf_cert_text.proofs.WrittenBack.{words-labelled, decimal-solid, decimal-line, line-append}
 
 -- ---- a label and a value

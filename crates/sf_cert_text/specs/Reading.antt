@@ -12,8 +12,8 @@ use Rattle.sf_model.specs.declared.TheConstants.{MAX}
 use Rattle.sf_model.specs.declared.parts.Pin.{Pin}
 use Rattle.sf_model.specs.declared.parts.Pin.TheVariants.{Block, Pad}
 use Rattle.sf_polish.specs.declared.expr.Expr.{Expr}
-use Rattle.sf_polish.specs.declared.fault.ExprFault.{ExprFault}
-use Rattle.sf_polish.specs.Reading.{expr_read}
+use Rattle.sf_expr_text.specs.declared.fault.ExprFault.{ExprFault}
+use Rattle.sf_expr_text.specs.Reading.{expr_read}
 use Rattle.sf_cert_text.specs.declared.fault.CertFault.{CertFault}
 use Rattle.sf_cert_text.specs.declared.fault.CertFault.TheVariants.{BadHeader, BadTag, TooDeep, Truncated, Trailing}
 use Rattle.sf_node.specs.declared.part.Part.{Part}

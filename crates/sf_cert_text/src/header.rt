@@ -7,7 +7,7 @@ ghost use Rattle.sf_lex.specs.Whole.{plain_read};
 ghost use Rattle.sf_lex.specs.Scan.{numbered_rest, line_of, last_line_of};
 ghost use Rattle.sf_model.specs.Paths.{all_lead};
 ghost use Rattle.sf_model.specs.declared.TheConstants.{MAX};
-ghost use Rattle.sf_polish.specs.Text.{IsWritable};
+ghost use Rattle.sf_polish.specs.Writable.{IsWritable};
 ghost use Rattle.sf_cert_text.specs.declared.fault.CertFault.TheVariants.{BadHeader, NoMemory};
 ghost use Rattle.sf_certificate.specs.Form.{no_plan};
 ghost use Rattle.sf_cert_text.specs.Reading.{value_in, version_of, version_of_word, version_in, number_in};
@@ -17,9 +17,10 @@ ghost use Rattle.sf_cert_text.specs.Reading.{header_read, exactly, ReadsLine};
 use crate::fault::CertFault;
 use crate::path_reading::read_paths;
 use crate::version::Version;
+use sf_expr_text::{ExprFault, read_expr};
 use sf_lex::{Gap, Scan, Word, last_line, next_field, read_plain, split_word};
 use sf_model::{MAX, Paths};
-use sf_polish::{Expr, ExprFault, read_expr};
+use sf_polish::Expr;
 use std::alloc::Global;
 
 /// What the header says.

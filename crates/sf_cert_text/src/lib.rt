@@ -4,7 +4,7 @@
 //! that is no certificate, with its line. `stored_paths` reads the header alone. `Opening` and `ByteReader` read the
 //! same from pieces that are cut anywhere. The crates above use what a text is read as, and that what is written is
 //! read back (`texts_are_read_back`). What certificates mean stands in `sf_certificate`, words and lines in `sf_lex`,
-//! and the text of a plan in `sf_polish`.
+//! and the text of a plan in `sf_expr_text`.
 #![tactic(auto)]
 
 mod bytes;

@@ -5,7 +5,7 @@ ghost use Rattle.std.specs.Prelude.{IsFalse, ⊤, Ok, Err, ◌≤◌, length};
 ghost use Rattle.std.specs.List.{count_by};
 ghost use Rattle.sf_lex.specs.Text.{is_line_feed};
 ghost use Rattle.sf_model.specs.declared.TheConstants.{MAX};
-ghost use Rattle.sf_polish.specs.Text.{IsWritable};
+ghost use Rattle.sf_polish.specs.Writable.{IsWritable};
 ghost use Rattle.sf_cert_text.specs.declared.fault.CertFault.TheVariants.{NoMemory};
 ghost use Rattle.sf_certificate.specs.Form.{no_plan};
 ghost use Rattle.sf_cert_text.specs.Bytes.{IsHeader, IsPart, bytes_on, said_with};

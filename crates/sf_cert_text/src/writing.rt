@@ -17,9 +17,10 @@ ghost use Rattle.sf_model.specs.CostText.{cost_text};
 use crate::path_writing::{has_none, push_paths};
 use itoa::Buffer;
 use sf_certificate::{Cert, Tag, TagList};
+use sf_expr_text::push_expr;
 use sf_model::{Paths, push_cost};
 use sf_node::Part;
-use sf_polish::{Expr, push_expr};
+use sf_polish::Expr;
 use std::alloc::{AllocError as NoMemory, Global};
 
 /// How many bytes are put together before they are added to the text.

@@ -25,7 +25,7 @@ pub use Rattle.sf_node.specs.declared.part.Part.{Part}
 pub use Rattle.sf_node.specs.declared.part.Part.TheVariants.{Area, Full, Hull, Pair, Range}
 pub use Rattle.sf_node.specs.declared.step.Step.{Step}
 pub use Rattle.sf_node.specs.declared.task.Task.{Task}
-pub use Rattle.sf_polish.specs.Text.{IsWritable}
+pub use Rattle.sf_polish.specs.Writable.{IsWritable}
 pub use Rattle.sf_polish.specs.declared.expr.Expr.{Expr}
 pub use Rattle.sf_polish.specs.declared.expr.Token.{Token}
 pub use Rattle.sf_search_core.specs.declared.entry.Entry.{Entry}

@@ -30,7 +30,7 @@ pub use Rattle.sf_model.specs.declared.design.Design.{Design}
 pub use Rattle.sf_node.specs.Parts.{Parts}
 pub use Rattle.sf_node.specs.Subproblem.{is_complete, is_wide, root, span_of}
 pub use Rattle.sf_node.specs.declared.part.Part.{Part}
-pub use Rattle.sf_polish.specs.Text.{IsWritable}
+pub use Rattle.sf_polish.specs.Writable.{IsWritable}
 pub use Rattle.sf_polish.specs.declared.expr.Expr.{Expr}
 pub use Rattle.std.proofs.Math.Seq.{drop-cons, map-set_same, take-add, take-suc}
 pub use Rattle.std.proofs.lemmas.List.{drop-set-lt, drop_all, length-drop, map-append, take-append-drop, take_all, take_more_set}

@@ -4,7 +4,7 @@ use Rattle.std.specs.Prelude.{◌≡◌, ◌≢◌, ◌==◌, ⊤, ℕ, List, �
 use Rattle.sf_model.specs.declared.design.Design.{Design}
 use Rattle.sf_model.specs.declared.TheConstants.{MAX}
 use Rattle.sf_model.specs.Legal.{block_count}
-use Rattle.sf_polish.specs.Text.{IsWritable}
+use Rattle.sf_polish.specs.Writable.{IsWritable}
 use Rattle.sf_node.specs.declared.part.Part.{Part}
 use Rattle.sf_node.specs.Parts.{Parts}
 use Rattle.sf_certificate.specs.declared.cert.Cert.{Cert}

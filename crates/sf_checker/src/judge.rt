@@ -2,7 +2,7 @@
 
 ghost use Rattle.std.specs.Prelude.{◌≡◌, ◌⊎◌, ⊤, ℕ, IfOk, MatchOption};
 ghost use Rattle.sf_model.specs.Legal.{block_count};
-ghost use Rattle.sf_polish.specs.Text.{IsWritable};
+ghost use Rattle.sf_polish.specs.Writable.{IsWritable};
 ghost use Rattle.sf_certificate.specs.declared.cert.Cert.{Cert as CertValue};
 ghost use Rattle.sf_checker.specs.Answers.{IsPlanRight, IsBadPlan, IsOtherCost};
 ghost use Rattle.sf_checker.specs.declared.answer.Why.TheVariants.{BadPlan, CostDiffers};

@@ -3,7 +3,7 @@
 ghost use Rattle.std.specs.Prelude.{◌↔◌, ◌<◌, IfOk, IsTrue, MatchOption};
 ghost use Rattle.sf_model.specs.Legal.{block_count};
 ghost use Rattle.sf_model.specs.Tree.{tree_of, HasBlocksBelow};
-ghost use Rattle.sf_polish.specs.Text.{IsWritable};
+ghost use Rattle.sf_polish.specs.Writable.{IsWritable};
 ghost use Rattle.sf_certificate.specs.Valid.{HasCost};
 ghost use Rattle.sf_checker.specs.Answers.{IsUnfit};
 ghost use Rattle.sf_checker.specs.Listed.{HasListedShapes};

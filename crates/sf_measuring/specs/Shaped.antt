@@ -9,10 +9,10 @@ use Rattle.sf_model.specs.declared.design.Design.{Design}
 use Rattle.sf_model.specs.declared.parts.Shape.{Shape}
 use Rattle.sf_model.specs.Legal.{block_count}
 use Rattle.sf_polish.specs.declared.expr.Token.{Token}
-use Rattle.sf_polish.specs.declared.fault.ExprFault.{ExprFault}
-use Rattle.sf_polish.specs.declared.fault.ExprFault.TheVariants as fault
-use Rattle.sf_polish.specs.Reading.{tokens_read}
-use Rattle.sf_polish.specs.Text.{SpellsTokens}
+use Rattle.sf_expr_text.specs.declared.fault.ExprFault.{ExprFault}
+use Rattle.sf_expr_text.specs.declared.fault.ExprFault.TheVariants as fault
+use Rattle.sf_expr_text.specs.Reading.{tokens_read}
+use Rattle.sf_expr_text.specs.Text.{SpellsTokens}
 use Rattle.sf_curves.specs.Choices.{IsRootCurve}
 use Rattle.sf_curves.specs.Points.{IsLeastArea, area_of}
 use Rattle.sf_node.specs.Subproblem.{root}

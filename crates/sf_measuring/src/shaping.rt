@@ -6,8 +6,8 @@ ghost use Rattle.sf_curves.specs.Choices.{IsRootCurve};
 ghost use Rattle.sf_model.specs.Legal.{block_count};
 ghost use Rattle.sf_node.specs.Subproblem.{root};
 ghost use Rattle.sf_polish.specs.Normal.{IsNormal};
-ghost use Rattle.sf_polish.specs.Reading.{tokens_read};
-ghost use Rattle.sf_polish.specs.Text.{SpellsTokens};
+ghost use Rattle.sf_expr_text.specs.Reading.{tokens_read};
+ghost use Rattle.sf_expr_text.specs.Text.{SpellsTokens};
 ghost use Rattle.sf_words.specs.Seen.{shape_seen};
 ghost use Rattle.sf_designs.specs.Loads.{ReadsShelf, TellsNoLoad};
 ghost use Rattle.sf_designs.specs.Outcome.{Ends, Refuses};
@@ -17,10 +17,11 @@ ghost use Rattle.sf_measuring.specs.Shaped.{least_line, point_line};
 
 use sf_curves::{Curve, Point, area, root_curve};
 use sf_designs::{Stop, Work, bare_fault, load_text, read_design};
+use sf_expr_text::{ExprFault, read_tokens};
 use sf_io::{Shelf, Status};
 use sf_model::Design;
 use sf_node::Node;
-use sf_polish::{ExprFault, Token, read_tokens};
+use sf_polish::Token;
 use sf_words::{ShapeWords, WeightWords};
 use std::alloc::{AllocError as NoMemory, Global};
 

@@ -3,7 +3,7 @@ use Rattle.std.proofs.Common.{◌≡◌, ℕ, suc, ◌<◌, List, [], ◌∷◌,
 use Rattle.sf_pieces.proofs.Common.{zero, MatchOption, AllByRecursion, flat_map, cases_lt, map-append, All-from_recursion, recursion_from_All, All-permutation, Design, each-any, each-append, each-weaker, Part, Parts, root, IsSubproblem, root-subproblem, Mark, Tag, Extend, Split, Closed, Open, IsFair, MaySplit, made, marks, if_open, least-same, marks-good, marks-tags, open-total, total, total-append, total-flat_map, total-map, total-permutation, Piece, AreInOrder, IsGood, IsRead, marks_in, told_by, Expr, each-both, Cert, AreTrees, HasCost, least, left_open, IsBalanced, IsGrown, grown, made-deeper, made-subproblems, HoldTree, IsLaid, open_at, open_in}
 use Rattle.sf_model.specs.declared.TheConstants.{MAX}
 use Rattle.sf_model.specs.Legal.{block_count}
-use Rattle.sf_polish.specs.Text.{IsWritable}
+use Rattle.sf_polish.specs.Writable.{IsWritable}
 use Rattle.sf_node.proofs.Depth.{subproblem-shallow}
 use Rattle.sf_certificate.specs.Form.{IsFormed}
 use Rattle.sf_certificate.proofs.MergedCert.{plan-cost, planned-for, planned-or-none}

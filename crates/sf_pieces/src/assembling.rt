@@ -3,7 +3,7 @@
 ghost use Rattle.std.specs.Prelude.{◌≡◌, ℕ, List, IfOk, MatchOption};
 ghost use Rattle.sf_model.specs.declared.TheConstants.{MAX};
 ghost use Rattle.sf_model.specs.Legal.{block_count};
-ghost use Rattle.sf_polish.specs.Text.{IsWritable};
+ghost use Rattle.sf_polish.specs.Writable.{IsWritable};
 ghost use Rattle.sf_node.specs.declared.part.Part.{Part};
 ghost use Rattle.sf_node.specs.Parts.{Parts};
 ghost use Rattle.sf_search_core.specs.declared.entry.Entry.{Entry};

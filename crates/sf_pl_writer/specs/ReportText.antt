@@ -3,7 +3,7 @@ use Rattle.std.specs.Prelude.{ℕ, List, [], ◌∷◌, ◌++◌, Option, Some, 
 use Rattle.std.specs.Fmt.{decimal}
 use Rattle.sf_model.specs.CostText.{cost_text}
 use Rattle.sf_polish.specs.declared.expr.Expr.{Expr}
-use Rattle.sf_polish.specs.Text.{expr_text}
+use Rattle.sf_expr_text.specs.Text.{expr_text}
 use Rattle.sf_pl_writer.specs.declared.report.Outcome.{Outcome}
 use Rattle.sf_pl_writer.specs.declared.report.Outcome.TheVariants.{Optimal, NoneFits, Open}
 use Rattle.sf_pl_writer.specs.declared.report.Report.{Report}

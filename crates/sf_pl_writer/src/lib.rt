@@ -2,7 +2,7 @@
 //! and the report of eight lines.
 //!
 //! Each text is a function of plain values in the specs, and the writers give it byte for byte.
-//! The crate stands on `sf_polish`, which writes the plan's expression, and on `sf_model`. The
+//! The crate stands on `sf_expr_text`, which writes the plan's expression, and on `sf_model`. The
 //! crates above use the clauses `text` of `pl_text` and of `report_text`.
 #![tactic(auto)]
 

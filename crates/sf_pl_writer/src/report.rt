@@ -7,8 +7,9 @@ ghost use Rattle.sf_polish.specs.Normal.{IsNormal};
 ghost use Rattle.sf_pl_writer.specs.ReportText.{line, outcome_text, no_plan_lines, measured_lines};
 ghost use Rattle.sf_pl_writer.specs.ReportText.{report_text};
 
+use sf_expr_text::push_expr;
 use sf_model::push_cost;
-use sf_polish::{Expr, push_expr};
+use sf_polish::Expr;
 use std::alloc::{AllocError as NoMemory, Global};
 
 /// How a search ended.

@@ -54,7 +54,8 @@ pub use Rattle.sf_pl_writer.specs.declared.report.Report.{Report}
 pub use Rattle.sf_place.specs.Spots.{IsByNumber, by_number}
 pub use Rattle.sf_place.specs.Verdict.{AreLegal, IsFirstWithout, IsVerdict}
 pub use Rattle.sf_polish.proofs.Spelling.{spells-one}
-pub use Rattle.sf_polish.specs.Text.{IsWritable, SpellsTokens}
+pub use Rattle.sf_polish.specs.Writable.{IsWritable}
+pub use Rattle.sf_expr_text.specs.Text.{SpellsTokens}
 pub use Rattle.sf_polish.specs.declared.expr.Expr.{Expr}
 pub use Rattle.sf_program.specs.Answer.{Answers, CommandAnswer, CommandRefuses, IsAnswer, IsDone, IsOwnAnswer, IsRefused, IsSilent, Obeys, RefusesWords, StoreOrPrintFailed}
 pub use Rattle.sf_program.specs.Beginning.{BeginRead, Packs, PlacementRead, PlacementRefused, name_of, softness}

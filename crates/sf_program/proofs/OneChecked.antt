@@ -2,8 +2,8 @@
 use Rattle.std.proofs.Common.{◌≡◌, inl, inr, ℕ, ◌+◌, suc, List, [], ◌∷◌, ◌++◌, map, length, Option, Some, None, Result, Ok, Err, refl, sym, ap, subst, ◌∙◌, arith}
 use Rattle.sf_program.proofs.Common.{Bool, codes, flat_map, range_with_len, Contents, Design, Block, Spot, block_count, root, IsRootCurve, ◌>>=◌, Place, IsByNumber, IsVerdict, BoundsChoice, chosen_part, Cert, cert_text, AreTrees, CheckOptions, MeasureOptions, ShapeOptions, CertRead, CheckRead, IsChecked, IsJudged, IsRenamed, IsRewritten, JudgedFile, answer_status, answer_text, cert_limit, cert_refusal, IsMeasured, MeasureRead, SpotsPlaced, SpotsRead, lines_named, sized_spot, spot_said, spots_said, verdict_status, verdict_text, Answer, AtMostOne, GivesOne, Refusal, DesignRead, KnownRead, Judged, PlacesRead, Said, TextRead, TextWithin, With, Stored, IsCurveText, IsLeast, IsShaped, ShapeRead, TokensRead, areas_alone, expr_refusal, least_line, point_line, Shape, SpellsTokens, AllNameFirst, unnamed, cert_read, takes-one, IsChosenAnswer, IsGoodWithPaths}
 use Rattle.sf_polish.specs.declared.expr.Token.{Token}
-use Rattle.sf_polish.specs.Reading.{tokens_read}
-use Rattle.sf_polish.proofs.TextLaws.{spelled-tokens}
+use Rattle.sf_expr_text.specs.Reading.{tokens_read}
+use Rattle.sf_expr_text.proofs.TextLaws.{spelled-tokens}
 use Rattle.sf_curves.proofs.OneTrace.{one-curve, one-least}
 use Rattle.sf_place.proofs.OneVerdict.{one-verdict}
 use Rattle.sf_certificate.specs.declared.tag.Tag.{Tag}

@@ -3,7 +3,7 @@
 ghost use Rattle.std.specs.Prelude.{◌≡◌, ◌≤◌, ◌++◌, ◌∷◌, [], length, ℕ, IfOk, None};
 ghost use Rattle.std.specs.Prelude.{Some, string_bytes};
 ghost use Rattle.sf_model.specs.Legal.{block_count};
-ghost use Rattle.sf_polish.specs.Text.{IsWritable};
+ghost use Rattle.sf_polish.specs.Writable.{IsWritable};
 ghost use Rattle.sf_cert_text.specs.Text.{cert_text};
 ghost use Rattle.sf_certificate.specs.Valid.{HasCost, decided};
 ghost use Rattle.sf_pl_writer.specs.Length.{IsScale};

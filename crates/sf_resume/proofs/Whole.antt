@@ -3,7 +3,7 @@ use Rattle.std.proofs.Common.{◌≡◌, ◌≢◌, ℕ, ◌<◌, ◌≤◌, Lis
 use Rattle.sf_resume.proofs.Common.{MatchOption, sum_by, Design, Expr, Part, Parts, root, root-subproblem, IsConserved, HasCost, IsValid, decided, least, left_open, Piece, AreTold, IsApart, Cert, AllNameFirst, full_of, Stretch, all_waits, Apart, CanGraft, IsGrafted}
 use Rattle.sf_model.specs.declared.TheConstants.{MAX}
 use Rattle.sf_model.specs.Legal.{block_count}
-use Rattle.sf_polish.specs.Text.{IsWritable}
+use Rattle.sf_polish.specs.Writable.{IsWritable}
 use Rattle.sf_rounds.specs.declared.leaving.Opened.{Opened}
 use Rattle.sf_rounds.specs.declared.legs.Leg.{Leg}
 use Rattle.sf_rounds.specs.declared.found.Found.{Found}

@@ -24,7 +24,7 @@ pub use Rattle.sf_pieces.proofs.Weights.{nodes-permute}
 pub use Rattle.sf_pieces.specs.Naming.{AreKept}
 pub use Rattle.sf_pieces.specs.Told.{AreTold, IsRead, mark_of, marks_in, open_mark}
 pub use Rattle.sf_pieces.specs.declared.piece.Piece.{Piece}
-pub use Rattle.sf_polish.specs.Text.{IsWritable}
+pub use Rattle.sf_polish.specs.Writable.{IsWritable}
 pub use Rattle.sf_polish.specs.declared.expr.Expr.{Expr}
 pub use Rattle.sf_rounds.specs.Accounts.{AreFirst, Begins, IsNew}
 pub use Rattle.sf_rounds.specs.Jobs.{Adds, CanPass, CanStart, Dealt, EachTwo, FirstsAre, Gathers, Handed, IsDone, IsFresh, IsLarger, IsLast, IsPooled, IsRefilled, IsSameBut, IsSeated, Passes, Ran, Worked, as_list, has_weight, log_of, open_of, place_of, with_more, with_put}

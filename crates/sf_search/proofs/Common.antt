@@ -36,7 +36,7 @@ pub use Rattle.sf_node.specs.declared.task.Task.{Task}
 pub use Rattle.sf_pieces.proofs.Names.{kept-more, kept-open, name-first, named-alike, renamed-alike}
 pub use Rattle.sf_pieces.specs.Naming.{AreKept, kept_for, renamed}
 pub use Rattle.sf_pieces.specs.Told.{AreTold, mark_of, open_mark}
-pub use Rattle.sf_polish.specs.Text.{IsWritable}
+pub use Rattle.sf_polish.specs.Writable.{IsWritable}
 pub use Rattle.sf_polish.specs.declared.expr.Expr.{Expr}
 pub use Rattle.sf_rounds.specs.Legs.{AreLeftOpen, IsLeg, tags_in}
 pub use Rattle.sf_rounds.specs.Rounds.{all_waits}

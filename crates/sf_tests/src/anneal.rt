@@ -10,6 +10,7 @@ use sf_anneal::{
     Beginning, flip_chain, improve, improved_starts, one_start, run_count, starts, swap_operands,
     swap_step,
 };
+use sf_expr_text::push_expr;
 use sf_gen::{Kinds, design_of};
 use sf_gsrc::{
     GsrcBlocks, GsrcNets, GsrcPlaces, blocks_have_sizes, join_parts, joined_parts_keep_ranges,
@@ -17,7 +18,7 @@ use sf_gsrc::{
 };
 use sf_model::{Design, Outline, Weights};
 use sf_parts::{Build, Parts};
-use sf_polish::{Expr, Token, Tokens, is_normal, push_expr};
+use sf_polish::{Expr, Token, Tokens, is_normal};
 use sf_soft_shapes::lists;
 use std::alloc::{AllocError, Global};
 use std::test::Fail;

@@ -5,8 +5,9 @@ ghost use Rattle.sf_place.specs.Spots.{HasNearCorner, IsByNumber};
 
 use crate::designs::{FLAT, NARROW, WIDE, bare, block_of, spot, two_blocks};
 use sf_cuts::{CutFault, cut, packed};
+use sf_expr_text::write_expr;
 use sf_model::{Plan, Shape, Spot};
-use sf_polish::{expr_of, write_expr};
+use sf_polish::expr_of;
 use std::alloc::{AllocError, Global};
 
 /// A left and a lower end, a width and a height.

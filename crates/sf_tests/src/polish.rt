@@ -4,8 +4,9 @@ ghost use Rattle.std.specs.Prelude.{◌≡◌, IfOk};
 ghost use Rattle.sf_model.specs.Tree.{Above, Beside, HasEachOnce, tree_of};
 ghost use Rattle.sf_polish.specs.Postfix.{IsSkewed};
 
+use sf_expr_text::{ExprFault, read_expr, read_tokens, write_expr};
 use sf_model::{Plan, Shape};
-use sf_polish::{ExprFault, expr_of, normalise, plan_of, read_expr, read_tokens, write_expr};
+use sf_polish::{expr_of, normalise, plan_of};
 use std::alloc::{AllocError, Global};
 
 /// The number of a fault and its line, and zeros where there is none.
