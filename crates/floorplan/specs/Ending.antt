@@ -2,7 +2,7 @@
 use Rattle.std.specs.Prelude.{◌≡◌, ⊤, ℕ, List, Some, None}
 use Rattle.sf_io.specs.declared.status.Status.{Status}
 use Rattle.sf_io.specs.declared.status.Status.TheVariants.{ReadFault, WriteFault, NoMemory}
-use Rattle.sf_words.specs.Meaning.{Command, gen, plan, resume}
+use Rattle.sf_options.specs.Options.{Command, gen, plan, resume}
 use Rattle.sf_program.specs.Answer.{Answers, RefusesWords}
 use Rattle.sf_designs.specs.Outcome.{lost}
 use Rattle.sf_designs.specs.Stores.{Stored}

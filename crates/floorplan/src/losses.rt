@@ -2,7 +2,7 @@
 
 use sf_designs::{FILE_LIMIT, Losses, count_losses, lossy_file};
 use sf_io::{Failed, LoadFault, Shelf, Status};
-use sf_words::{CommandWords, DesignWords, InputFiles};
+use sf_options::{CommandWords, DesignWords, InputFiles};
 use std::alloc::Global;
 
 /// Whether an option is among the words, by itself or with its value behind it.

@@ -6,7 +6,7 @@ use Rattle.sf_model.specs.Legal.{block_count}
 use Rattle.sf_polish.specs.declared.expr.Expr.{Expr}
 use Rattle.sf_certificate.specs.declared.cert.Cert.{Cert}
 use Rattle.sf_cert_text.specs.Text.{cert_text}
-use Rattle.sf_words.specs.declared.command.BoundsChoice.TheVariants.{Standard}
+use Rattle.sf_options.specs.declared.command.BoundsChoice.TheVariants.{Standard}
 use Rattle.sf_known.specs.Initial.{IsInitialPlan}
 use Rattle.sf_known.specs.Known.{IsKnownBy, Knows}
 use Rattle.sf_known.proofs.Taken.{as-it-was}

@@ -18,9 +18,8 @@ pub use Rattle.sf_lex.specs.Scan.{Line}
 pub use Rattle.sf_pl_writer.specs.declared.report.Outcome.{Outcome}
 pub use Rattle.sf_program.specs.Answer.{IsAnswer, usage_line}
 pub use Rattle.sf_program.specs.Planned.{IsAnswered, IsTold, PlanDesign, budget_of, outcome_status}
-pub use Rattle.sf_words.specs.Meaning.{PlanOptions, plan}
-pub use Rattle.sf_words.specs.Seen.{plan_seen}
-pub use Rattle.sf_words.specs.Table.{Text}
+pub use Rattle.sf_options.specs.Options.{PlanOptions, plan, Text}
+pub use Rattle.sf_options.specs.Seen.{plan_seen}
 pub use Rattle.std.proofs.lemmas.List.{length-map, length-set, map-set}
 pub use Rattle.std.proofs.lemmas.List.Elements.{All-append, All-pop}
 pub use Rattle.std.proofs.lemmas.Slice.Zip.{AllZip-long}

@@ -4,7 +4,7 @@ use Rattle.sf_io.specs.Outside.{Contents}
 use Rattle.sf_io.specs.declared.status.Status.{Status}
 use Rattle.sf_io.specs.declared.status.Status.TheVariants.{ReadFault, NoMemory}
 use Rattle.sf_lex.specs.Scan.{Line}
-use Rattle.sf_words.specs.Table.{Text}
+use Rattle.sf_options.specs.Options.{Text}
 use Rattle.sf_words.specs.Words.{IsValue}
 use Rattle.sf_jobs.specs.Job.{Job, IsJob, words_of_job}
 use Rattle.sf_jobs.specs.Told.{Told}

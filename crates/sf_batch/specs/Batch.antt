@@ -5,8 +5,7 @@ use Rattle.sf_io.specs.Outside.{Contents, Rose, ShelfSeen}
 use Rattle.sf_io.specs.declared.status.Status.{Status}
 use Rattle.sf_io.specs.declared.status.Status.TheVariants.{Usage, ReadFault, NoMemory}
 use Rattle.sf_gsrc.specs.Blocks.{content_of}
-use Rattle.sf_words.specs.Table.{Text}
-use Rattle.sf_words.specs.Meaning.{PlanOptions}
+use Rattle.sf_options.specs.Options.{Text, PlanOptions}
 use Rattle.sf_jobs.specs.Jobs.{JobsStand, JobsRefused}
 use Rattle.sf_jobs.specs.declared.fault.JobsFault.TheVariants.{BadLine, TooMany}
 use Rattle.sf_jobs.specs.Team.{TeamOptions, TeamSays}

@@ -3,7 +3,7 @@ use Rattle.std.specs.Prelude.{◌≡◌, ⊤, List, [], Option, None, Some}
 use Rattle.sf_io.specs.Outside.{Contents}
 use Rattle.sf_lex.specs.Scan.{Line}
 use Rattle.sf_model.specs.Legal.{block_count}
-use Rattle.sf_words.specs.declared.command.BoundsChoice.TheVariants.{Standard}
+use Rattle.sf_options.specs.declared.command.BoundsChoice.TheVariants.{Standard}
 use Rattle.sf_jobs.specs.Told.{Told}
 use Rattle.sf_jobs.specs.Seen.{told_seen}
 use Rattle.sf_program.specs.Planned.{IsAnswered, budget_of}

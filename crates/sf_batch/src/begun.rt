@@ -2,7 +2,7 @@
 
 ghost use Rattle.std.specs.Prelude.{option_map};
 ghost use Rattle.sf_lex.specs.Scan.{Line};
-ghost use Rattle.sf_words.specs.Seen.{plan_seen};
+ghost use Rattle.sf_options.specs.Seen.{plan_seen};
 ghost use Rattle.sf_jobs.specs.Job.{SaysJob};
 ghost use Rattle.sf_designs.specs.Loads.{Reads};
 ghost use Rattle.sf_batch.specs.Progress.{Begins, IsCounted};
@@ -11,8 +11,8 @@ use crate::answers::{answer_of, usage_answer};
 use crate::job::BuiltJob;
 use sf_io::Shelf;
 use sf_jobs::Answer;
+use sf_options::PlanWords;
 use sf_program::read_plan;
-use sf_words::PlanWords;
 use std::alloc::Global;
 
 /// A job before its search.

@@ -1,7 +1,7 @@
 //! The answer to a jobs file.
 
 ghost use Rattle.std.specs.Prelude.{◌<◌, ℕ, List, Ok, Err, IfOk, IfErr, map, option_map};
-ghost use Rattle.sf_words.specs.Seen.{plan_seen};
+ghost use Rattle.sf_options.specs.Seen.{plan_seen};
 ghost use Rattle.sf_jobs.specs.Jobs.{JobsRefused};
 ghost use Rattle.sf_designs.specs.Loads.{IsNoLoad, ReadsShelf, TellsNoLoad};
 ghost use Rattle.sf_designs.specs.Outcome.{Ends, Stops};
@@ -12,7 +12,7 @@ use crate::doing::do_jobs;
 use sf_designs::{Stop, bare_fault, load_text, over_limit};
 use sf_io::{Gate, Shelf};
 use sf_jobs::{Answer, JobsFault, TeamWords, batch_status, batch_text, read_jobs};
-use sf_words::PlanWords;
+use sf_options::PlanWords;
 use std::alloc::{AllocError as NoMemory, Global};
 use std::sync::{Arc, Wait};
 use std::thread::Threads;

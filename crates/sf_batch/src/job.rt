@@ -5,9 +5,9 @@ ghost use Rattle.sf_batch.specs.Built.{IsFound};
 use sf_io::Gate;
 use sf_jobs::Answer;
 use sf_model::Design;
+use sf_options::BoundsChoice;
 use sf_program::{Names, search_design};
 use sf_team::Gives;
-use sf_words::BoundsChoice;
 use std::alloc::Global;
 use std::thread::Threads;
 

@@ -13,7 +13,7 @@ pub use Rattle.sf_gsrc.specs.declared.output.GsrcPlaces.{GsrcPlaces}
 pub use Rattle.sf_io.specs.Outside.{Contents, ShelfSeen}
 pub use Rattle.sf_io.specs.declared.status.Status.TheVariants.{BadInput, OverLimit}
 pub use Rattle.sf_parts.specs.declared.raw.Parts.{Parts}
-pub use Rattle.sf_words.specs.Seen.{text_of}
+pub use Rattle.sf_options.specs.Seen.{text_of}
 pub use Rattle.std.proofs.lemmas.Result.{err_from_is_err_and}
 pub use Rattle.std.specs.Fmt.{decimal}
 pub use Rattle.std.specs.Prelude.{IfErr}

@@ -3,7 +3,7 @@ use Rattle.std.specs.Prelude.{◌≡◌, ℕ, List, length}
 use Rattle.sf_gsrc.specs.declared.output.GsrcBlocks.{GsrcBlocks}
 use Rattle.sf_gsrc.specs.Standing.{StandsFor}
 use Rattle.sf_yal.specs.Losses.{losses_of}
-use Rattle.sf_words.specs.Meaning.{Input, gsrc, yal}
+use Rattle.sf_options.specs.Options.{Input, gsrc, yal}
 use Rattle.sf_designs.specs.declared.losses.Losses.{Losses}
 use Rattle.sf_designs.specs.declared.losses.Losses.TheVariants.{Pads, Yal}
 

@@ -22,7 +22,7 @@ use Rattle.sf_gsrc.specs.Weights.{weights_read, WeightsStandFor}
 use Rattle.sf_gsrc.specs.Join.{joined, nets_in}
 use Rattle.sf_yal.specs.Standing as yals
 use Rattle.sf_yal.specs.Parts.{yal_read}
-use Rattle.sf_words.specs.Meaning.{Input, gsrc, yal, DesignOptions, WeightOptions}
+use Rattle.sf_options.specs.Options.{Input, gsrc, yal, DesignOptions, WeightOptions}
 use Rattle.sf_designs.specs.Outcome.{Refusal, refused, lost, Then}
 use Rattle.sf_designs.specs.Refusals.{over_limit, gsrc_refusal, weight_refusal, yal_refusal, join_refusal, build_refusal}
 use Rattle.sf_designs.specs.Weighed.{WeighedParts}

@@ -2,7 +2,7 @@
 
 ghost use Rattle.std.specs.Prelude.{◌≡◌, IfOk, None};
 ghost use Rattle.sf_parts.specs.Built.{HasShapeChoices, first_shapeless};
-ghost use Rattle.sf_words.specs.Seen.{design_seen, weights_seen};
+ghost use Rattle.sf_options.specs.Seen.{design_seen, weights_seen};
 ghost use Rattle.sf_designs.specs.Loads.{ReadsShelf, TellsNoLoad};
 ghost use Rattle.sf_designs.specs.Outcome.{Ends};
 ghost use Rattle.sf_designs.specs.Reading.{Admitted, Built, DesignMade, DesignRead, ListsMade, PartsAdmitted};
@@ -14,9 +14,9 @@ use crate::stop::Stop;
 use crate::weighed::{AdmittedParts, Weighed};
 use sf_io::Shelf;
 use sf_model::{Design, Outline, Shapes, Weights};
+use sf_options::{DesignWords, WeightWords};
 use sf_parts::{Build, BuildFault};
 use sf_soft_shapes::lists;
-use sf_words::{DesignWords, WeightWords};
 use std::alloc::Global;
 
 /// The parts, where they may become a design.

@@ -1,10 +1,10 @@
-//! From the files that the words name to a design, stage by stage: a text is loaded and parsed, the parts that
+//! From the files that the options name to a design, stage by stage: a text is loaded and parsed, the parts that
 //! the texts say are joined and tested, each block gets its shapes, and a design is built. A stage gives a
 //! value or ends the call with the line that refuses an input. It stands on the readers of texts
-//! (`sf_gsrc`, `sf_yal`), the words (`sf_words`), the shape lists (`sf_soft_shapes`) and the parts (`sf_parts`). The crate above,
-//! which holds the commands, uses of each stage that it ends with what the relations of `specs/Reading` say
-//! for the texts on the shelf, that nothing is stored, and that a failed load is told only where one was
-//! counted.
+//! (`sf_gsrc`, `sf_yal`), the options (`sf_options`), the shape lists (`sf_soft_shapes`) and the parts
+//! (`sf_parts`). The crate above, which holds the commands, uses of each stage that it ends with what the
+//! relations of `specs/Reading` say for the texts on the shelf, that nothing is stored, and that a failed load
+//! is told only where one was counted.
 #![tactic(auto)]
 
 mod designs;

@@ -1,13 +1,13 @@
 //! What the files of a design say that the design has no place for.
 
 ghost use Rattle.std.specs.Prelude.{◌≡◌, ◌≤◌, ◌^◌, length, IfSome};
-ghost use Rattle.sf_words.specs.Seen.{input_seen};
+ghost use Rattle.sf_options.specs.Seen.{input_seen};
 ghost use Rattle.sf_yal.specs.Losses.{losses_of};
 ghost use Rattle.sf_designs.specs.Losses.{AreLosses, HasPads};
 
 use sf_gsrc::read_blocks;
 use sf_lex::Scale;
-use sf_words::InputFiles;
+use sf_options::InputFiles;
 use sf_yal::{YalLosses, yal_losses};
 use std::alloc::Global;
 

@@ -1,7 +1,7 @@
 //! From the named files to the parts of a design.
 
 ghost use Rattle.std.specs.Prelude.{◌≡◌, ◌≤◌, ◌^◌, length, codes, All, IfOk, IfSome};
-ghost use Rattle.sf_words.specs.Seen.{input_seen, text_of};
+ghost use Rattle.sf_options.specs.Seen.{input_seen, text_of};
 ghost use Rattle.sf_parts.specs.Admitted.{IsSized};
 ghost use Rattle.sf_gsrc.specs.Join.{nets_in};
 ghost use Rattle.sf_gsrc.specs.Ranges.{HasPinsInAnyRange};
@@ -19,7 +19,7 @@ use crate::weighing::read_net_weights;
 use sf_gsrc::{GsrcBlocks, GsrcNets, GsrcPlaces};
 use sf_io::{LoadFault, Shelf};
 use sf_lex::Scale;
-use sf_words::InputFiles;
+use sf_options::InputFiles;
 use std::alloc::Global;
 
 /// The most bytes that a file may have: 64 MiB.

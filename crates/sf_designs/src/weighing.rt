@@ -1,7 +1,7 @@
 //! The weights of nets: those of the named file, or 1 for each.
 
 ghost use Rattle.std.specs.Prelude.{◌≡◌, Some, IfOk, length};
-ghost use Rattle.sf_words.specs.Seen.{text_of};
+ghost use Rattle.sf_options.specs.Seen.{text_of};
 ghost use Rattle.sf_designs.specs.Loads.{ReadsShelf};
 ghost use Rattle.sf_designs.specs.Outcome.{Ends};
 ghost use Rattle.sf_designs.specs.Reading.{WeightsRead};

@@ -6,4 +6,4 @@ pub use Rattle.sf_designs.specs.Weighed.{WeighedParts}
 pub use Rattle.sf_generated.specs.Made.{blocks_said, kinds_of, nets_said, parts_made, places_said}
 pub use Rattle.sf_parts.specs.declared.fault.BuildFault.{BuildFault}
 pub use Rattle.sf_soft_shapes.specs.Listed.{HasNoneFor}
-pub use Rattle.sf_words.specs.Seen.{gen_seen}
+pub use Rattle.sf_options.specs.Seen.{gen_seen}

@@ -5,7 +5,7 @@ use Rattle.sf_designs.specs.Outcome.{Refusal, IsFault, Stops}
 use Rattle.sf_designs.specs.Reading.{Judged, Said}
 use Rattle.sf_designs.specs.declared.stop.Stop.{Stop}
 use Rattle.sf_model.specs.declared.design.Design.{Design}
-use Rattle.sf_words.specs.Meaning.{DesignOptions, WeightOptions}
+use Rattle.sf_options.specs.Options.{DesignOptions, WeightOptions}
 use Rattle.std.specs.Prelude.{IfErr, IfOk}
 use Rattle.sf_generated.proofs.Common.{HasNoneFor, Ends, DesignMade, WeighedParts, BuildFault}
 
@@ -48,6 +48,10 @@ module _ (o : DesignOptions) (w : WeightOptions) (read : WeighedParts) (shaped :
   pub made-never : (r : Result Design Stop) → Ends (λ x. x) r (DesignMade o w read) → IfErr r IsFault
   made-never (Ok x) h = tt
   made-never (Err stop) h = stops-map (λ why. DesignMade o w read (Err why)) (λ why. ⊥) no-refusal stop h
+
+-- a design that is made of some options is made of the same ones
+pub made-same : (o p : DesignOptions) (w v : WeightOptions) (read : WeighedParts) (r : Result Design Stop) → o ≡ p → w ≡ v → Ends (λ x. x) r (DesignMade o w read) → Ends (λ x. x) r (DesignMade p v read)
+made-same o p w v read r same alike h = subst (λ (u : WeightOptions). Ends (λ x. x) r (DesignMade p u read)) alike (subst (λ (q : DesignOptions). Ends (λ x. x) r (DesignMade q w read)) same h)
 
 -- a design that is made stands beside what else is known
 pub made-ok : (o : DesignOptions) (w : WeightOptions) (read : WeighedParts) (S : Type 0) → S → (r : Result Design Stop) → Ends (λ x. x) r (DesignMade o w read) → IfOk r (λ d. S × DesignMade o w read (Ok d))

@@ -1,5 +1,5 @@
 -- What is made of a number: the texts, the parts that they say, and the design of these.
-use Rattle.std.specs.Prelude.{◌≡◌, ℕ, List, [], ◌∷◌, ◌++◌, codes, false, None, Some, Result, Ok, Err}
+use Rattle.std.specs.Prelude.{◌≡◌, ℕ, List, [], ◌∷◌, ◌++◌, codes, None, Some, Result, Ok, Err}
 use Rattle.sf_model.specs.declared.design.Design.{Design}
 use Rattle.sf_parts.specs.declared.raw.Parts.{Parts}
 use Rattle.sf_parts.specs.Admitted.{IsAdmitted}
@@ -15,9 +15,10 @@ use Rattle.sf_gen.specs.declared.design.Kinds.TheVariants as made
 use Rattle.sf_gen.specs.Designs.{blocks_out, nets_out, parts_of, places_out}
 use Rattle.sf_gen.specs.Drawn.{ends, sizes}
 use Rattle.sf_gen.specs.Texts.{blocks_text, nets_text, pl_text}
-use Rattle.sf_words.specs.declared.command.Kinds.{Kinds}
-use Rattle.sf_words.specs.declared.command.Kinds.TheVariants.{Hard, Mixed}
-use Rattle.sf_words.specs.Meaning.{gsrc, DesignOptions, GenOptions, WeightOptions}
+use Rattle.sf_options.specs.declared.command.Kinds.{Kinds}
+use Rattle.sf_options.specs.declared.command.Kinds.TheVariants.{Hard, Mixed}
+use Rattle.sf_options.specs.Defaults.{default_design, weights_by_wire}
+use Rattle.sf_options.specs.Options.{gsrc, DesignOptions, GenOptions, WeightOptions}
 use Rattle.sf_designs.specs.Outcome.{Refusal}
 use Rattle.sf_designs.specs.Reading.{DesignMade}
 use Rattle.sf_designs.specs.Stores.{Stored}
@@ -70,11 +71,11 @@ parts_made o = parts_of (kinds_of o.kinds) o.seed o.count
 
 -- the design options of `plan` where none is given
 abbrev pub by_default : DesignOptions
-by_default = record { input = gsrc [] None None; per_unit = 1; is_fixed = false; shapes = 16; width = 1_048_576; height = 1_048_576 }
+by_default = default_design (gsrc [] None None)
 
 -- an area weight and a wire weight of 1, and no weights of nets named
 abbrev pub both_weights : WeightOptions
-both_weights = record { area = 1; wire = 1; net_weights = None }
+both_weights = weights_by_wire 1
 
 -- the three texts stand for the parts, which may become a design
 pub record TextsStand (o : GenOptions) : Type 0 where

@@ -1,7 +1,7 @@
 //! From a number to a design and the stores of its texts.
 
 ghost use Rattle.std.specs.Prelude.{◌≡◌, Ok, IfErr, IfOk};
-ghost use Rattle.sf_words.specs.Seen.{gen_seen};
+ghost use Rattle.sf_options.specs.Seen.{gen_seen};
 ghost use Rattle.sf_designs.specs.Loads.{TellsNoLoad};
 ghost use Rattle.sf_designs.specs.Outcome.{IsFault};
 ghost use Rattle.sf_designs.specs.Stores.{stored_in};
@@ -13,9 +13,8 @@ use sf_designs::{AdmittedParts, ReadParts, Stop, Store, Weighed, make_design};
 use sf_gen::{
     blocks_are_read, blocks_have_shapes, nets_are_read, parts_are_admitted, places_are_read,
 };
-use sf_lex::Scale;
-use sf_model::{Design, MOST_SIDE};
-use sf_words::{DesignWords, GenWords, InputFiles, WeightWords};
+use sf_model::Design;
+use sf_options::{DesignWords, GenWords, InputFiles, WeightWords};
 use std::alloc::Global;
 
 /// A generated design, and the stores of its three texts.
@@ -37,23 +36,12 @@ fn made_design(alloc: Global, words: &GenWords<'_>, read: ReadParts) -> Result<D
     places_are_read();
     parts_are_admitted();
     blocks_have_shapes();
-    let told = DesignWords {
-        input: InputFiles::Gsrc {
-            blocks: "",
-            nets: None,
-            pl: None,
-        },
-        scale: Scale { per_unit: 1 },
-        is_fixed: false,
-        shapes: 16,
-        width: MOST_SIDE as u32,
-        height: MOST_SIDE as u32,
-    };
-    let both_weights = WeightWords {
-        area: 1,
-        wire: 1,
-        net_weights: None,
-    };
+    let told = DesignWords::by_default(InputFiles::Gsrc {
+        blocks: "",
+        nets: None,
+        pl: None,
+    });
+    let both_weights = WeightWords::by_wire(1);
     let weighed = Weighed::alike(alloc, read)?;
     make_design(alloc, &told, both_weights, AdmittedParts { weighed })
 }

@@ -3,7 +3,7 @@
 ghost use Rattle.std.specs.Prelude.{◌≡◌, All, IfErr, IfOk};
 ghost use Rattle.sf_gsrc.specs.Ranges.{HasPinsInAnyRange};
 ghost use Rattle.sf_parts.specs.Admitted.{IsSized};
-ghost use Rattle.sf_words.specs.Seen.{gen_seen};
+ghost use Rattle.sf_options.specs.Seen.{gen_seen};
 ghost use Rattle.sf_designs.specs.Loads.{TellsNoLoad};
 ghost use Rattle.sf_designs.specs.Outcome.{IsFault};
 ghost use Rattle.sf_generated.specs.Made.{blocks_made, blocks_said, nets_made, nets_said, parts_made};
@@ -13,7 +13,7 @@ use sf_designs::{ReadParts, Stop, join, parse_blocks, parse_nets, parse_places};
 use sf_gen::{GenTexts, blocks_are_read, nets_are_read, parts_are_admitted, places_are_read};
 use sf_gsrc::{GsrcBlocks, GsrcNets, GsrcPlaces};
 use sf_lex::Scale;
-use sf_words::GenWords;
+use sf_options::GenWords;
 use std::alloc::Global;
 
 /// The blocks for which the text stands.

@@ -1,13 +1,13 @@
 //! The texts of a generated design, and what is stored of them.
 
 ghost use Rattle.std.specs.Prelude.{◌≡◌, ◌++◌, ◌∷◌, [], IfOk, string_bytes};
-ghost use Rattle.sf_words.specs.Seen.{gen_seen};
+ghost use Rattle.sf_options.specs.Seen.{gen_seen};
 ghost use Rattle.sf_designs.specs.Stores.{stored_in};
 ghost use Rattle.sf_generated.specs.Made.{blocks_made, kinds_of, nets_made, pl_made, texts_stored};
 
 use sf_designs::Store;
 use sf_gen::{GenTexts, design_of};
-use sf_words::{GenWords, Kinds};
+use sf_options::{GenWords, Kinds};
 use std::alloc::{AllocError as NoMemory, Global};
 
 /// The kinds of blocks that the words name.

@@ -5,11 +5,11 @@ pub use Rattle.sf_jobs.specs.Plan.{AreValues, options_of}
 pub use Rattle.sf_jobs.specs.Seen.{job_of, told_seen}
 pub use Rattle.sf_jobs.specs.Told.{Told, batch_text, job_line, texts_from}
 pub use Rattle.sf_lex.specs.Scan.{Line, numbered, numbered_rest}
-pub use Rattle.sf_words.specs.Meaning.{Command, HasNoMeaning, Means, PlanOptions, PlanSays, Values, mode_of, plan, value_in}
+pub use Rattle.sf_options.specs.Options.{Command, PlanOptions, plan, Text}
+pub use Rattle.sf_words.specs.Meaning.{HasNoMeaning, Means, PlanSays, Values, mode_of, value_in}
 pub use Rattle.sf_words.specs.Numbers.{IsWithin, SaysNodes}
 unfoldable pub use Rattle.sf_words.specs.Numbers.{default_of, nodes_range, range}
-pub use Rattle.sf_words.specs.Seen.{plan_seen}
-pub use Rattle.sf_words.specs.Table.{Text}
+pub use Rattle.sf_options.specs.Seen.{plan_seen}
 unfoldable pub use Rattle.sf_words.specs.Table.{is_flag, key_text, keys_of, mode_text, modes}
 pub use Rattle.sf_words.specs.Words.{AreOptions, HasForm, IsNew, IsShaped, IsValue, Token, alone, attached, before, key_of, key_word, spaced, value_of, words_of}
 pub use Rattle.sf_words.specs.declared.options.Key.{Key}

@@ -2,7 +2,7 @@
 use Rattle.std.proofs.Common.{◌≡◌, ◌⊎◌, inl, inr, ℕ, true, false, List, [], ◌∷◌, Option, Some, None, IfSome, IfNone, option_map, codes, refl, sym, subst, arith}
 use Rattle.sf_lex.specs.Whole.{whole_read}
 use Rattle.sf_jobs.proofs.Common.{ForSome, Key, Format, Blocks, Nets, Pl, WireWeight, Nodes, Cert, Plan, mode_text, modes, key_text, is_flag, keys_of, Text, Token, spaced, words_of, IsValue, Values, value_in, PlanOptions, PlanSays, plan, Means, HasNoMeaning, Job, given, IsWire, IsBudget, with_option, words_of_job, with_cert, Asks, IsPlain, AreValues, options_of, range, nodes_range, default_of, SaysNodes, plan_seen}
-use Rattle.sf_words.specs.declared.command.PlanWords.{PlanWords}
+use Rattle.sf_options.specs.declared.command.PlanWords.{PlanWords}
 use Rattle.sf_jobs.proofs.Tokens.{with_token, fits, HaveValues, are_options, value_or, stuck}
 
 -- the words, by what their fields say

@@ -6,11 +6,11 @@ use Rattle.sf_lex.specs.Scan.{Line}
 use Rattle.sf_lex.specs.Gap.{is_gap}
 use Rattle.sf_lex.specs.declared.field.Gap.TheVariants.{Blanks}
 use Rattle.sf_lex.specs.Whole.{whole_read}
-use Rattle.sf_words.specs.Table.{Text}
+use Rattle.sf_options.specs.Options.{Text, PlanOptions, plan}
 use Rattle.sf_words.specs.Words.{IsValue}
 use Rattle.sf_words.specs.Numbers.{IsWithin}
-use Rattle.sf_words.specs.Meaning.{PlanOptions, plan, Means, HasNoMeaning}
-use Rattle.sf_words.specs.declared.command.BoundsChoice.TheVariants.{Standard}
+use Rattle.sf_words.specs.Meaning.{Means, HasNoMeaning}
+use Rattle.sf_options.specs.declared.command.BoundsChoice.TheVariants.{Standard}
 
 -- the five words of a job's line
 pub record Job : Type 0 where

@@ -3,7 +3,7 @@ use Rattle.std.specs.Prelude.{◌≡◌, ℕ, ◌<◌, ◌≤◌, List, ◌∷�
 use Rattle.std.specs.List.{AllZip}
 use Rattle.sf_lex.specs.Scan.{Line}
 use Rattle.sf_gsrc.specs.Blocks.{content_of}
-use Rattle.sf_words.specs.Meaning.{PlanOptions}
+use Rattle.sf_options.specs.Options.{PlanOptions}
 use Rattle.sf_jobs.specs.Job.{Job, IsJob, IsNoJob, SaysJob}
 use Rattle.sf_jobs.specs.declared.fault.JobsFault.{JobsFault}
 use Rattle.sf_jobs.specs.declared.fault.JobsFault.TheVariants.{BadLine, TooMany, NoMemory}

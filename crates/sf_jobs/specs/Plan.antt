@@ -1,10 +1,9 @@
 -- The options that a job's words give, and when they give any.
-use Rattle.std.specs.Prelude.{ℕ, ◌^◌, false, [], Option, None}
+use Rattle.std.specs.Prelude.{ℕ, false, [], Option, None}
 use Rattle.std.specs.Option.{ForSome}
-use Rattle.sf_words.specs.Table.{Text}
+use Rattle.sf_options.specs.Options.{Text, PlanOptions, gsrc}
 use Rattle.sf_words.specs.Words.{IsValue}
-use Rattle.sf_words.specs.Meaning.{PlanOptions, gsrc}
-use Rattle.sf_words.specs.declared.command.BoundsChoice.TheVariants.{Standard}
+use Rattle.sf_options.specs.Defaults.{default_bounds, default_design, default_starts, default_workers, weights_by_wire}
 
 -- the names may be values of options
 pub record AreValues (blocks : Text) (nets pl : Option Text) : Type 0 where
@@ -15,14 +14,14 @@ pub record AreValues (blocks : Text) (nets pl : Option Text) : Type 0 where
 -- the names, the weight and the budget that are given, and the defaults of all else; there is no certificate
 abbrev pub options_of : (blocks : Text) → (nets pl : Option Text) → (wire : ℕ) → (nodes : Option ℕ) → PlanOptions
 options_of blocks nets pl wire nodes = record {
-  design = record { input = gsrc blocks nets pl; per_unit = 1; is_fixed = false; shapes = 16; width = 2 ^ 20; height = 2 ^ 20 };
-  weights = record { area = 1; wire = wire; net_weights = None };
+  design = default_design (gsrc blocks nets pl);
+  weights = weights_by_wire wire;
   cert = [];
   pl_out = None;
-  workers = 1;
+  workers = default_workers;
   nodes = nodes;
   is_long = false;
-  starts = record { count = 0; moves = 1_000; seed = 0; improve = None };
+  starts = default_starts;
   begin = None;
-  bounds = Standard;
+  bounds = default_bounds;
 }

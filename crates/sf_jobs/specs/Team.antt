@@ -1,6 +1,6 @@
 -- The words of the batch program.
 use Rattle.std.specs.Prelude.{◌≡◌, ℕ, List, [], ◌∷◌, codes}
-use Rattle.sf_words.specs.Table.{Text}
+use Rattle.sf_options.specs.Options.{Text}
 use Rattle.sf_words.specs.Words.{IsValue}
 use Rattle.sf_words.specs.Numbers.{IsWithin}
 

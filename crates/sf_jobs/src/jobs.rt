@@ -1,14 +1,14 @@
 //! The jobs of a jobs file.
 
 ghost use Rattle.std.specs.Prelude.{◌≡◌, IfOk, IfErr, map, option_map};
-ghost use Rattle.sf_words.specs.Seen.{plan_seen};
+ghost use Rattle.sf_options.specs.Seen.{plan_seen};
 ghost use Rattle.sf_jobs.specs.Jobs.{JobsStand, JobsRefused};
 
 use crate::fault::JobsFault;
 use crate::plan::read_job;
 use sf_gsrc::next_content;
 use sf_lex::Scan;
-use sf_words::PlanWords;
+use sf_options::PlanWords;
 use std::alloc::Global;
 
 /// How many jobs there may be.

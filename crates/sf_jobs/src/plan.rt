@@ -3,14 +3,16 @@
 ghost use Rattle.std.specs.Prelude.{◌≡◌, ◌≤◌, ◌↔◌, ℕ, IsTrue, IfSome, IfNone, option_map};
 ghost use Rattle.std.specs.Option.{ForSome};
 ghost use Rattle.sf_words.specs.Words.{IsValue};
-ghost use Rattle.sf_words.specs.Seen.{plan_seen, text_of};
+ghost use Rattle.sf_options.specs.Seen.{plan_seen, text_of};
 ghost use Rattle.sf_lex.specs.Scan.{line_of};
 ghost use Rattle.sf_jobs.specs.Job.{SaysJob, IsNoJob};
 ghost use Rattle.sf_jobs.specs.Plan.{AreValues, options_of};
 
 use crate::fields::{given, read_budget, read_name, read_wire, split_fields};
-use sf_lex::{Scale, Word};
-use sf_words::{BoundsChoice, DesignWords, InputFiles, PlanWords, StartWords, WeightWords};
+use sf_lex::Word;
+use sf_options::{
+    BoundsChoice, DEFAULT_WORKERS, DesignWords, InputFiles, PlanWords, StartWords, WeightWords,
+};
 
 /// The names of a job's files.
 #[derive(Clone, Copy)]
@@ -57,32 +59,16 @@ fn plan_words<'a>(names: Names<'a>, wire: u16, nodes: Option<u64>) -> Option<Pla
         return None;
     }
     Some(PlanWords {
-        design: DesignWords {
-            input: InputFiles::Gsrc { blocks, nets, pl },
-            scale: Scale { per_unit: 1 },
-            is_fixed: false,
-            shapes: 16,
-            width: 1_048_576,
-            height: 1_048_576,
-        },
-        weights: WeightWords {
-            area: 1,
-            wire,
-            net_weights: None,
-        },
+        design: DesignWords::by_default(InputFiles::Gsrc { blocks, nets, pl }),
+        weights: WeightWords::by_wire(wire),
         cert: "",
         pl_out: None,
-        workers: 1,
+        workers: DEFAULT_WORKERS,
         nodes,
         is_long: false,
-        starts: StartWords {
-            count: 0,
-            moves: 1000,
-            seed: 0,
-            improve: None,
-        },
+        starts: StartWords::by_default(),
         begin: None,
-        bounds: BoundsChoice::Standard,
+        bounds: BoundsChoice::by_default(),
     })
 }
 

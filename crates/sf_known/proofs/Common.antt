@@ -12,8 +12,8 @@ pub use Rattle.sf_model.specs.declared.design.Design.{Design}
 pub use Rattle.sf_model.specs.declared.parts.Block.{Block}
 pub use Rattle.sf_model.specs.declared.parts.Outline.{Outline}
 pub use Rattle.sf_polish.specs.declared.expr.Expr.{Expr}
-pub use Rattle.sf_words.specs.Meaning.{StartOptions}
-pub use Rattle.sf_words.specs.declared.command.BoundsChoice.{BoundsChoice}
-pub use Rattle.sf_words.specs.declared.command.BoundsChoice.TheVariants.{Both, Fit, Pair, Standard, Strong}
+pub use Rattle.sf_options.specs.Options.{StartOptions}
+pub use Rattle.sf_options.specs.declared.command.BoundsChoice.{BoundsChoice}
+pub use Rattle.sf_options.specs.declared.command.BoundsChoice.TheVariants.{Both, Fit, Pair, Standard, Strong}
 pub use Rattle.std.proofs.lemmas.Bool.{cases_Bool, cases_lt}
 pub use Rattle.std.proofs.lemmas.Bool.Decides.{nat_tests}

@@ -7,8 +7,8 @@ use Rattle.sf_anneal.specs.Starts.{IsImprovedStarts}
 use Rattle.sf_polish.specs.declared.expr.Expr.{Expr}
 use Rattle.sf_known.specs.Known.{IsKnownBy, Knows, cheaper}
 use Rattle.sf_known.specs.Routed.{IsRouted}
-use Rattle.sf_words.specs.declared.command.BoundsChoice.{BoundsChoice}
-use Rattle.sf_words.specs.Meaning.{StartOptions}
+use Rattle.sf_options.specs.declared.command.BoundsChoice.{BoundsChoice}
+use Rattle.sf_options.specs.Options.{StartOptions}
 
 -- how many trials make a start better: what was asked for, or the default for so many blocks
 abbrev pub trials_of : Option ℕ → ℕ → ℕ

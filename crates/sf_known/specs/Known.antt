@@ -7,8 +7,8 @@ use Rattle.sf_model.specs.Tree.{width, height}
 use Rattle.sf_anneal.specs.Measured.{IsFloorplan}
 use Rattle.sf_polish.specs.declared.expr.Expr.{Expr}
 use Rattle.sf_subsets.specs.Floors.{KnowsArea}
-use Rattle.sf_words.specs.declared.command.BoundsChoice.{BoundsChoice}
-use Rattle.sf_words.specs.declared.command.BoundsChoice.TheVariants.{Strong}
+use Rattle.sf_options.specs.declared.command.BoundsChoice.{BoundsChoice}
+use Rattle.sf_options.specs.declared.command.BoundsChoice.TheVariants.{Strong}
 
 -- the first design where it knows more: one of at most 16 blocks knows its least area, and a larger one is as it was
 pub record KnowsMore (design known : Design) : Type 0 where

@@ -4,8 +4,8 @@ use Rattle.sf_model.specs.declared.design.Design.{Design}
 use Rattle.sf_model.specs.declared.paths.Paths.{Paths}
 use Rattle.sf_model.specs.Paths.{IsFirstWrong}
 use Rattle.sf_model.specs.Routed.{HasPaths}
-use Rattle.sf_words.specs.declared.command.BoundsChoice.{BoundsChoice}
-use Rattle.sf_words.specs.declared.command.BoundsChoice.TheVariants.{Strong}
+use Rattle.sf_options.specs.declared.command.BoundsChoice.{BoundsChoice}
+use Rattle.sf_options.specs.declared.command.BoundsChoice.TheVariants.{Strong}
 
 -- the design with these paths where strong bounds are asked for, and as it was by others
 abbrev pub Takes : BoundsChoice → Design → Paths → Design → Type 0

@@ -11,9 +11,9 @@ ghost use Rattle.sf_known.specs.declared.knowing.TheConstants.{FEW_BLOCKS};
 
 use crate::spelling::{plan_found, spelled};
 use sf_model::{Design, Plan};
+use sf_options::BoundsChoice;
 use sf_polish::Expr;
 use sf_subsets::learn_area;
-use sf_words::BoundsChoice;
 use std::alloc::{AllocError as NoMemory, Global};
 
 /// The most blocks of a design that gets to know its least area.

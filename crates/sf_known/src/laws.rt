@@ -2,7 +2,7 @@
 
 ghost use Rattle.std.specs.Prelude.{◌≡◌};
 ghost use Rattle.sf_model.specs.declared.design.Design.{Design};
-ghost use Rattle.sf_words.specs.declared.command.BoundsChoice.{BoundsChoice};
+ghost use Rattle.sf_options.specs.declared.command.BoundsChoice.{BoundsChoice};
 ghost use Rattle.sf_known.specs.Known.{Knows};
 
 /// By the same bounds a design gets to know one thing, and keeps its blocks.

@@ -6,8 +6,8 @@ ghost use Rattle.sf_model.specs.Routed.{HasPaths};
 ghost use Rattle.sf_known.specs.Routed.{Breaks, IsRouted, Takes};
 
 use sf_model::{Design, PathFault, Paths};
+use sf_options::BoundsChoice;
 use sf_paths::find_paths;
-use sf_words::BoundsChoice;
 use std::alloc::{AllocError as NoMemory, Global};
 
 /// Gives the design paths, or tells the number of the first one that is not legal.

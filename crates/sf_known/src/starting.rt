@@ -5,15 +5,15 @@ ghost use Rattle.sf_anneal.specs.Measured.{IsFloorplan};
 ghost use Rattle.sf_anneal.specs.Starts.{begun_plan, IsImprovedStarts};
 ghost use Rattle.sf_known.specs.Initial.{IsSearchInput, trials_of};
 ghost use Rattle.sf_model.specs.Legal.{block_count};
-ghost use Rattle.sf_words.specs.Seen.{starts_seen};
+ghost use Rattle.sf_options.specs.Seen.{starts_seen};
 
 use crate::choosing::cheaper;
 use crate::knowing::know;
 use crate::routing::find_routes;
 use sf_anneal::{Beginning, improved_starts};
 use sf_model::Design;
+use sf_options::{BoundsChoice, StartWords};
 use sf_polish::Expr;
-use sf_words::{BoundsChoice, StartWords};
 use std::alloc::{AllocError as NoMemory, Global};
 use std::thread::Threads;
 

@@ -25,7 +25,7 @@ pub use Rattle.sf_names.specs.Values.{value_in}
 pub use Rattle.sf_node.specs.Subproblem.{root}
 pub use Rattle.sf_place.specs.Spots.{HasNearCorner}
 pub use Rattle.sf_place.specs.Verdict.{AreLegal, IsVerdict, LiesIn}
-pub use Rattle.sf_words.specs.Seen.{measure_seen, shape_seen}
+pub use Rattle.sf_options.specs.Seen.{measure_seen, shape_seen}
 pub use Rattle.std.proofs.Math.Seq.{drop-cons, drop-length}
 pub use Rattle.std.proofs.lemmas.Bool.Decides.{nat_tests}
 pub use Rattle.std.proofs.lemmas.Int.{ints}

@@ -16,7 +16,7 @@ use Rattle.sf_lex.specs.Results.{◌>>=◌}
 use Rattle.sf_place.specs.declared.verdict.Verdict.{Verdict}
 use Rattle.sf_place.specs.declared.verdict.Verdict.TheVariants.{Legal, Unlisted, Outside, Overlap}
 use Rattle.sf_place.specs.Verdict.{IsVerdict}
-use Rattle.sf_words.specs.Meaning.{MeasureOptions}
+use Rattle.sf_options.specs.Options.{MeasureOptions}
 use Rattle.sf_designs.specs.declared.stop.Stop.{Stop}
 use Rattle.sf_designs.specs.declared.work.Work.{Work}
 use Rattle.sf_designs.specs.Outcome.{Refusal, Then}

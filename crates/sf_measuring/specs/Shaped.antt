@@ -16,7 +16,7 @@ use Rattle.sf_expr_text.specs.Text.{SpellsTokens}
 use Rattle.sf_curves.specs.Choices.{IsRootCurve}
 use Rattle.sf_curves.specs.Points.{IsLeastArea, area_of}
 use Rattle.sf_node.specs.Subproblem.{root}
-use Rattle.sf_words.specs.Meaning.{ShapeOptions, WeightOptions}
+use Rattle.sf_options.specs.Options.{ShapeOptions, WeightOptions}
 use Rattle.sf_designs.specs.declared.stop.Stop.{Stop}
 use Rattle.sf_designs.specs.declared.work.Work.{Work}
 use Rattle.sf_designs.specs.Outcome.{Refusal, Then}

@@ -6,7 +6,7 @@ ghost use Rattle.sf_model.specs.Legal.{block_count};
 ghost use Rattle.sf_model.specs.Wire.{wire};
 ghost use Rattle.sf_place.specs.Spots.{HasNearCorner, IsByNumber};
 ghost use Rattle.sf_place.specs.Verdict.{AreLegal, IsVerdict};
-ghost use Rattle.sf_words.specs.Seen.{measure_seen};
+ghost use Rattle.sf_options.specs.Seen.{measure_seen};
 ghost use Rattle.sf_designs.specs.Loads.{ReadsShelf};
 ghost use Rattle.sf_measuring.specs.Measured.{MeasureAnswers, SpotsRead, legal_text, verdict_status, verdict_text};
 ghost use Rattle.sf_designs.specs.Outcome.{Ends};
@@ -16,9 +16,9 @@ use sf_designs::{Stop, Work, read_design, read_places_file};
 use sf_io::{Shelf, Status};
 use sf_lex::Scale;
 use sf_model::{Design, Spot};
+use sf_options::MeasureWords;
 use sf_place::{Verdict, check_spots};
 use sf_wire::{spots_cost, spots_size, wire};
-use sf_words::MeasureWords;
 use std::alloc::{AllocError as NoMemory, Global};
 
 /// Where the placed file of this name puts the blocks of a design, by number.

@@ -8,7 +8,7 @@ ghost use Rattle.sf_node.specs.Subproblem.{root};
 ghost use Rattle.sf_polish.specs.Normal.{IsNormal};
 ghost use Rattle.sf_expr_text.specs.Reading.{tokens_read};
 ghost use Rattle.sf_expr_text.specs.Text.{SpellsTokens};
-ghost use Rattle.sf_words.specs.Seen.{shape_seen};
+ghost use Rattle.sf_options.specs.Seen.{shape_seen};
 ghost use Rattle.sf_designs.specs.Loads.{ReadsShelf, TellsNoLoad};
 ghost use Rattle.sf_designs.specs.Outcome.{Ends, Refuses};
 ghost use Rattle.sf_designs.specs.Reading.{Said};
@@ -21,8 +21,8 @@ use sf_expr_text::{ExprFault, read_tokens};
 use sf_io::{Shelf, Status};
 use sf_model::Design;
 use sf_node::Node;
+use sf_options::{ShapeWords, WeightWords};
 use sf_polish::Token;
-use sf_words::{ShapeWords, WeightWords};
 use std::alloc::{AllocError as NoMemory, Global};
 
 /// The first fault of the text of an expression.

@@ -8,7 +8,7 @@ use Rattle.sf_bound_kit.proofs.Apart.{pair-area-below, pair-fit-below}
 use Rattle.sf_bound_kit.specs.Keeping.{kit_part, kit_value}
 use Rattle.sf_bound_kit.specs.Lawful.{both_are_sound, both_parts, kit_is_sound, kit_parts}
 use Rattle.sf_bound_kit.specs.Pairs.{pair_area, pair_fit}
-use Rattle.sf_words.specs.declared.command.BoundsChoice.TheVariants as by
+use Rattle.sf_options.specs.declared.command.BoundsChoice.TheVariants as by
 
 -- no plan costs less than the chosen bound
 pub chosen-sound : (bounds : BoundsChoice) (design : Design) → IsSound design (chosen_value bounds design)

@@ -71,10 +71,11 @@ pub use Rattle.sf_resume.specs.Resumed.{full_open}
 pub use Rattle.sf_search.specs.Turns.{turns}
 pub use Rattle.sf_search_core.specs.Outcome.{opening}
 pub use Rattle.sf_words.proofs.Unique.{meaning_unique}
-pub use Rattle.sf_words.specs.Meaning.{CheckOptions, Command, DesignOptions, GenOptions, Input, Means, MeasureOptions, PlanOptions, ResumeOptions, ShapeOptions, WeightOptions, check, gen, gsrc, measure, plan, resume, shape, yal}
-pub use Rattle.sf_words.specs.Seen.{check_seen, gen_seen, plan_seen, resume_seen, text_of}
-pub use Rattle.sf_words.specs.declared.command.BoundsChoice.{BoundsChoice}
-pub use Rattle.sf_words.specs.declared.command.BoundsChoice.TheVariants.{Both, Fit, Pair, Standard, Strong}
+pub use Rattle.sf_options.specs.Options.{CheckOptions, Command, DesignOptions, GenOptions, Input, MeasureOptions, PlanOptions, ResumeOptions, ShapeOptions, WeightOptions, check, gen, gsrc, measure, plan, resume, shape, yal}
+pub use Rattle.sf_words.specs.Meaning.{Means}
+pub use Rattle.sf_options.specs.Seen.{check_seen, gen_seen, plan_seen, resume_seen, text_of}
+pub use Rattle.sf_options.specs.declared.command.BoundsChoice.{BoundsChoice}
+pub use Rattle.sf_options.specs.declared.command.BoundsChoice.TheVariants.{Both, Fit, Pair, Standard, Strong}
 pub use Rattle.std.proofs.lemmas.Bool.Decides.{nat_tests}
 pub use Rattle.std.proofs.lemmas.List.{take-append-drop}
 pub use Rattle.std.proofs.lemmas.Result.{IfOk-weaker, err_from_is_err_and}

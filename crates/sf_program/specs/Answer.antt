@@ -5,7 +5,8 @@ use Rattle.sf_io.specs.Outside.{Contents, Rose, ShelfSeen, SinkSeen, Took}
 use Rattle.sf_io.specs.declared.status.Status.{Status}
 use Rattle.sf_io.specs.declared.status.Status.TheVariants.{Usage, ReadFault, WriteFault, NoMemory}
 use Rattle.sf_pl_writer.specs.Length.{IsScale}
-use Rattle.sf_words.specs.Meaning.{Command, plan, check, resume, measure, shape, gen, Means, HasNoMeaning}
+use Rattle.sf_options.specs.Options.{Command, plan, check, resume, measure, shape, gen}
+use Rattle.sf_words.specs.Meaning.{Means, HasNoMeaning}
 use Rattle.sf_designs.specs.declared.stop.Stop.{Stop}
 use Rattle.sf_designs.specs.declared.work.Work.{Work}
 use Rattle.sf_designs.specs.Outcome.{Refusal, IsRefusal, refused}

@@ -12,7 +12,7 @@ use Rattle.sf_cuts.specs.Cuts.{IsSlicing}
 use Rattle.sf_cuts.specs.Packed.{HasShapeFor}
 use Rattle.sf_known.specs.Packed.{IsPackedBeginning}
 use Rattle.sf_place.specs.Verdict.{IsFirstWithout}
-use Rattle.sf_words.specs.Meaning.{PlanOptions}
+use Rattle.sf_options.specs.Options.{PlanOptions}
 use Rattle.sf_designs.specs.Outcome.{Refusal, Then}
 use Rattle.sf_designs.specs.Reading.{IfNamed}
 use Rattle.sf_designs.specs.Refusals.{design_fault}

@@ -20,8 +20,8 @@ use Rattle.sf_checker.specs.declared.answer.Answer.{Answer}
 use Rattle.sf_checker.specs.declared.answer.Answer.TheVariants.{Yes, No}
 use Rattle.sf_checker.specs.Answers.{IsAnswer, is_yes, with_bad_path}
 use Rattle.sf_known.specs.Routed.{Breaks, Takes}
-use Rattle.sf_words.specs.declared.command.BoundsChoice.{BoundsChoice}
-use Rattle.sf_words.specs.Meaning.{CheckOptions}
+use Rattle.sf_options.specs.declared.command.BoundsChoice.{BoundsChoice}
+use Rattle.sf_options.specs.Options.{CheckOptions}
 use Rattle.sf_program.specs.Chosen.{chosen_value, chosen_part}
 use Rattle.sf_designs.specs.Outcome.{Refusal, Then}
 use Rattle.sf_designs.specs.Refusals.{line_of, bad_input, no_line}

@@ -7,8 +7,8 @@ use Rattle.sf_standard.specs.Standard.{standard, part_value}
 use Rattle.sf_bound_kit.specs.Greater.{greater, greater_part}
 use Rattle.sf_bound_kit.specs.Keeping.{kit_value, kit_part}
 use Rattle.sf_bound_kit.specs.Pairs.{pair_area, pair_fit}
-use Rattle.sf_words.specs.declared.command.BoundsChoice.{BoundsChoice}
-use Rattle.sf_words.specs.declared.command.BoundsChoice.TheVariants as by
+use Rattle.sf_options.specs.declared.command.BoundsChoice.{BoundsChoice}
+use Rattle.sf_options.specs.declared.command.BoundsChoice.TheVariants as by
 
 -- the value of a subproblem; what strong bounds add is known by the design itself
 abbrev pub chosen_value : BoundsChoice → Design → Parts → ℕ

@@ -3,7 +3,7 @@ use Rattle.std.specs.Prelude.{⊤, Some, Result, Ok}
 use Rattle.sf_io.specs.Outside.{Contents}
 use Rattle.sf_io.specs.declared.status.Status.{Status}
 use Rattle.sf_io.specs.declared.status.Status.TheVariants.{Done, NoneFits, Open, No, WriteFault, NoMemory}
-use Rattle.sf_words.specs.Meaning.{Command, plan, check, resume, measure, shape, gen}
+use Rattle.sf_options.specs.Options.{Command, plan, check, resume, measure, shape, gen}
 use Rattle.sf_designs.specs.Outcome.{Refusal}
 use Rattle.sf_program.specs.Planned.{PlanRead}
 use Rattle.sf_program.specs.Checked.{CheckRead}

@@ -3,10 +3,10 @@ use Rattle.std.specs.Prelude.{◌≡◌, ℕ, List, ◌++◌, codes, false, None
 use Rattle.sf_io.specs.declared.status.Status.{Status}
 use Rattle.sf_model.specs.declared.design.Design.{Design}
 use Rattle.sf_model.specs.Legal.{block_count}
-use Rattle.sf_words.specs.Meaning.{GenOptions}
+use Rattle.sf_options.specs.Options.{GenOptions}
 use Rattle.sf_designs.specs.Outcome.{Refusal, Then}
 use Rattle.sf_generated.specs.Made.{DesignGenerated, texts_stored}
-use Rattle.sf_words.specs.declared.command.BoundsChoice.TheVariants.{Standard}
+use Rattle.sf_options.specs.declared.command.BoundsChoice.TheVariants.{Standard}
 use Rattle.sf_program.specs.Planned.{BudgetTested, IsAnswered, budget_of}
 use Rattle.sf_designs.specs.Stores.{Stored}
 

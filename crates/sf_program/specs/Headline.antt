@@ -17,7 +17,7 @@ use Rattle.sf_polish.specs.Postfix.{Spells}
 use Rattle.sf_certificate.specs.declared.cert.Cert.{Cert}
 use Rattle.sf_certificate.specs.Valid.{decided}
 use Rattle.sf_resume.specs.Resumed.{full_open}
-use Rattle.sf_words.specs.Meaning.{ResumeOptions}
+use Rattle.sf_options.specs.Options.{ResumeOptions}
 use Rattle.sf_pl_writer.specs.declared.report.Report.{Report}
 use Rattle.sf_pl_writer.specs.ReportText.{report_text}
 use Rattle.sf_designs.specs.Outcome.{Refusal}

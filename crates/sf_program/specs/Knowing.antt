@@ -3,8 +3,8 @@ use Rattle.std.specs.Prelude.{Option, Result, Ok, Err}
 use Rattle.sf_io.specs.Outside.{Contents}
 use Rattle.sf_model.specs.declared.design.Design.{Design}
 use Rattle.sf_known.specs.Known.{Knows}
-use Rattle.sf_words.specs.declared.command.BoundsChoice.{BoundsChoice}
-use Rattle.sf_words.specs.Meaning.{DesignOptions, WeightOptions}
+use Rattle.sf_options.specs.declared.command.BoundsChoice.{BoundsChoice}
+use Rattle.sf_options.specs.Options.{DesignOptions, WeightOptions}
 use Rattle.sf_designs.specs.Outcome.{Refusal, Then}
 use Rattle.sf_designs.specs.Reading.{DesignRead}
 

@@ -7,8 +7,9 @@ use Rattle.sf_model.specs.declared.design.Design.{Design}
 use Rattle.sf_parts.specs.declared.raw.RawBlock.{RawBlock}
 use Rattle.sf_parts.specs.Admitted.{block_names}
 use Rattle.sf_model.specs.Legal.{block_count}
-use Rattle.sf_words.specs.Meaning.{Command, plan, resume, Means}
-use Rattle.sf_words.specs.declared.command.BoundsChoice.TheVariants.{Strong}
+use Rattle.sf_options.specs.Options.{Command, plan, resume}
+use Rattle.sf_words.specs.Meaning.{Means}
+use Rattle.sf_options.specs.declared.command.BoundsChoice.TheVariants.{Strong}
 use Rattle.sf_program.specs.Answer.{Answers}
 use Rattle.sf_designs.specs.Outcome.{Refusal, refused, lost}
 use Rattle.sf_designs.specs.Stores.{AfterStores, Stored}

@@ -31,8 +31,8 @@ use Rattle.sf_pl_writer.specs.declared.report.Outcome.{Outcome}
 use Rattle.sf_pl_writer.specs.declared.report.Outcome.TheVariants as word
 use Rattle.sf_pl_writer.specs.PlText.{pl_text}
 use Rattle.sf_pl_writer.specs.ReportText.{report_text}
-use Rattle.sf_words.specs.declared.command.BoundsChoice.{BoundsChoice}
-use Rattle.sf_words.specs.Meaning.{PlanOptions}
+use Rattle.sf_options.specs.declared.command.BoundsChoice.{BoundsChoice}
+use Rattle.sf_options.specs.Options.{PlanOptions}
 use Rattle.sf_designs.specs.Outcome.{Refusal, Then}
 use Rattle.sf_designs.specs.Refusals.{over_limit}
 use Rattle.sf_designs.specs.Reading.{PartsAdmitted, DesignMade, With}

@@ -13,8 +13,8 @@ use Rattle.sf_checker.specs.declared.answer.Why.{Why}
 use Rattle.sf_checker.specs.declared.answer.Answer.TheVariants.{No}
 use Rattle.sf_known.specs.Routed.{Takes}
 use Rattle.sf_resume.specs.Resumed.{full_open}
-use Rattle.sf_words.specs.declared.command.BoundsChoice.{BoundsChoice}
-use Rattle.sf_words.specs.Meaning.{ResumeOptions}
+use Rattle.sf_options.specs.declared.command.BoundsChoice.{BoundsChoice}
+use Rattle.sf_options.specs.Options.{ResumeOptions}
 use Rattle.sf_program.specs.Chosen.{chosen_value, chosen_part}
 use Rattle.sf_designs.specs.Outcome.{Refusal, Then}
 use Rattle.sf_program.specs.Planned.{CountTested, IsReported}

@@ -3,11 +3,10 @@
 ghost use Rattle.std.specs.Prelude.{None, Err, IfErr, IfOk};
 ghost use Rattle.sf_cert_text.specs.Reading.{cert_read};
 ghost use Rattle.sf_model.specs.Legal.{block_count};
-ghost use Rattle.sf_words.specs.Meaning.{check};
-ghost use Rattle.sf_words.specs.Seen.{check_seen, text_of};
+ghost use Rattle.sf_options.specs.Options.{check};
+ghost use Rattle.sf_options.specs.Seen.{check_seen, text_of};
 ghost use Rattle.sf_program.specs.Answer.{Obeys};
-ghost use Rattle.sf_program.specs.Checked.{CertRead, JudgedFile, JudgedText};
-ghost use Rattle.sf_program.specs.Checked.{cert_refusal};
+ghost use Rattle.sf_program.specs.Checked.{CertRead, JudgedFile, JudgedText, cert_refusal};
 ghost use Rattle.sf_designs.specs.Loads.{Reads, ReadsShelf, TellsNoLoad};
 ghost use Rattle.sf_designs.specs.Outcome.{Stops};
 ghost use Rattle.sf_designs.specs.Reading.{Judged};
@@ -21,7 +20,7 @@ use crate::with_paths::answer_text;
 use sf_designs::{Stop, Work, no_stores};
 use sf_io::Shelf;
 use sf_model::Design;
-use sf_words::{BoundsChoice, CheckWords};
+use sf_options::{BoundsChoice, CheckWords};
 use std::alloc::Global;
 
 /// What is told of the certificate that a text says: nothing of it is stored.

@@ -26,10 +26,10 @@ use sf_checker::{Answer, check, name_parts};
 use sf_designs::Stop;
 use sf_io::Gate;
 use sf_model::Design;
+use sf_options::BoundsChoice;
 use sf_polish::Expr;
 use sf_resume::resume;
 use sf_rounds::{Found, SearchOptions};
-use sf_words::BoundsChoice;
 use std::alloc::{AllocError as NoMemory, Global};
 use std::thread::Threads;
 

@@ -2,9 +2,8 @@
 
 ghost use Rattle.std.specs.Prelude.{◌≡◌, [], IfErr, IfOk, map, string_bytes};
 ghost use Rattle.sf_io.specs.Outside.{Rose};
-ghost use Rattle.sf_words.specs.Seen.{command_seen};
-ghost use Rattle.sf_program.specs.Answer.{Answers, HasScale, IsSilent, Obeys};
-ghost use Rattle.sf_program.specs.Answer.{RefusesWords, usage_line};
+ghost use Rattle.sf_options.specs.Seen.{command_seen};
+ghost use Rattle.sf_program.specs.Answer.{Answers, HasScale, IsSilent, Obeys, RefusesWords, usage_line};
 ghost use Rattle.sf_designs.specs.Loads.{Reads, ReadsShelf};
 ghost use Rattle.sf_designs.specs.Outcome.{lost};
 ghost use Rattle.sf_designs.specs.Stores.{Gives, stored_in};
@@ -16,7 +15,8 @@ use crate::resuming::resume;
 use sf_designs::{Stop, Work};
 use sf_io::{Gate, Shelf, Status};
 use sf_measuring::{measure, shape};
-use sf_words::{CommandWords, read_words};
+use sf_options::CommandWords;
+use sf_words::read_words;
 use std::alloc::Global;
 use std::thread::Threads;
 

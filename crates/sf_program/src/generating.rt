@@ -2,7 +2,7 @@
 
 ghost use Rattle.std.specs.Prelude.{◌≡◌, ◌++◌, None, Err, IfErr, IfOk};
 ghost use Rattle.sf_model.specs.Legal.{block_count};
-ghost use Rattle.sf_words.specs.Seen.{gen_seen};
+ghost use Rattle.sf_options.specs.Seen.{gen_seen};
 ghost use Rattle.sf_program.specs.Generated.{GenRead, IsGenerated, cert_name};
 ghost use Rattle.sf_designs.specs.Loads.{TellsNoLoad};
 ghost use Rattle.sf_designs.specs.Outcome.{Stops};
@@ -16,7 +16,7 @@ use sf_designs::{Stop, Store, Work};
 use sf_generated::{file_name, generate_design};
 use sf_io::Gate;
 use sf_model::Design;
-use sf_words::{BoundsChoice, GenWords};
+use sf_options::{BoundsChoice, GenWords};
 use std::alloc::{AllocError as NoMemory, Global};
 use std::thread::Threads;
 

@@ -1,6 +1,6 @@
 //! The design for which the named files stand, with what is known of it.
 
-ghost use Rattle.sf_words.specs.Seen.{design_seen, weights_seen};
+ghost use Rattle.sf_options.specs.Seen.{design_seen, weights_seen};
 ghost use Rattle.sf_designs.specs.Loads.{ReadsShelf};
 ghost use Rattle.sf_designs.specs.Outcome.{Ends};
 ghost use Rattle.sf_program.specs.Knowing.{KnownRead};
@@ -9,7 +9,7 @@ use sf_designs::{Stop, read_design};
 use sf_io::Shelf;
 use sf_known::know_alone;
 use sf_model::Design;
-use sf_words::{BoundsChoice, DesignWords, WeightWords};
+use sf_options::{BoundsChoice, DesignWords, WeightWords};
 use std::alloc::Global;
 
 /// The design for which the named files stand, which knows what was asked for.

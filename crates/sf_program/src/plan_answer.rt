@@ -7,7 +7,7 @@ ghost use Rattle.sf_polish.specs.Writable.{IsWritable};
 ghost use Rattle.sf_cert_text.specs.Text.{cert_text};
 ghost use Rattle.sf_certificate.specs.Valid.{HasCost, decided};
 ghost use Rattle.sf_pl_writer.specs.Length.{IsScale};
-ghost use Rattle.sf_words.specs.Seen.{text_of};
+ghost use Rattle.sf_options.specs.Seen.{text_of};
 ghost use Rattle.sf_program.specs.Planned.{IsEnding, AreMeasures, IsTold, outcome_status, placement_stores};
 ghost use Rattle.sf_designs.specs.Stores.{stored_in};
 

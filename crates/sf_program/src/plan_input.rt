@@ -5,7 +5,7 @@ ghost use Rattle.sf_anneal.specs.Measured.{IsFloorplan};
 ghost use Rattle.sf_anneal.specs.Starts.{begun_plan};
 ghost use Rattle.sf_model.specs.Legal.{block_count};
 ghost use Rattle.sf_place.specs.Spots.{HasNearCorner, IsByNumber};
-ghost use Rattle.sf_words.specs.Seen.{plan_seen, text_of};
+ghost use Rattle.sf_options.specs.Seen.{plan_seen, text_of};
 ghost use Rattle.sf_designs.specs.Loads.{ReadsShelf, TellsNoLoad};
 ghost use Rattle.sf_designs.specs.Outcome.{Ends};
 ghost use Rattle.sf_designs.specs.Reading.{IfNamed};
@@ -22,8 +22,8 @@ use sf_known::packed_beginning;
 use sf_lex::Scale;
 use sf_measuring::read_spots;
 use sf_model::{Design, Spot};
+use sf_options::PlanWords;
 use sf_parts::{Kind, Parts, admitted_parts_keep_limits};
-use sf_words::PlanWords;
 use std::alloc::{AllocError as NoMemory, Global};
 
 /// What `plan` reads.

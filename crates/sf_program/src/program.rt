@@ -3,8 +3,9 @@
 ghost use Rattle.std.specs.Prelude.{◌≡◌, ◌≢◌, ◌≤◌, ◌⊎◌, map, Some, OnOk, OnErr, IsFalse, string_bytes};
 ghost use Rattle.std.specs.Io.KnownBytes.{Appends};
 ghost use Rattle.sf_io.specs.Outside.{Contents, Rose};
-ghost use Rattle.sf_words.specs.Meaning.{Command, GenOptions, PlanOptions, ResumeOptions, Means};
-ghost use Rattle.sf_words.specs.Meaning.{gen, plan, resume};
+ghost use Rattle.sf_options.specs.Options.{Command, GenOptions, PlanOptions, ResumeOptions};
+ghost use Rattle.sf_words.specs.Meaning.{Means};
+ghost use Rattle.sf_options.specs.Options.{gen, plan, resume};
 ghost use Rattle.sf_program.specs.Answer.{IsAnswer, IsDone, IsHalted, IsSilent, RefusesWords};
 ghost use Rattle.sf_program.specs.Answer.{StoreOrPrintFailed};
 ghost use Rattle.sf_program.specs.Complete.{IsTaken, MayEnd};

@@ -23,7 +23,7 @@ use sf_certificate::Cert;
 use sf_checker::Answer;
 use sf_designs::{Stop, Store, Work, no_stores};
 use sf_model::Design;
-use sf_words::BoundsChoice;
+use sf_options::BoundsChoice;
 use std::alloc::{AllocError as NoMemory, Global};
 
 /// The store of a certificate that is valid for the design that took its paths, with its parts named anew.

@@ -19,7 +19,7 @@ use sf_checker::{Answer, with_bad_path};
 use sf_designs::Stop;
 use sf_known::take_paths;
 use sf_model::{Design, Paths};
-use sf_words::BoundsChoice;
+use sf_options::BoundsChoice;
 use std::alloc::{AllocError as NoMemory, Global};
 
 /// What is answered where a path may be wrong.

@@ -3,7 +3,7 @@
 
 use sf_io::Status;
 use sf_jobs::{Answer, JobsFault, batch_status, batch_text, read_jobs, read_team_words};
-use sf_words::{InputFiles, PlanWords};
+use sf_options::{InputFiles, PlanWords};
 use std::alloc::{AllocError, Global};
 
 /// Lines behind a good one, none of which is a job.

@@ -1,7 +1,8 @@
 //! The words of each command with all of its options, and lists of words at the edges of the table of
 //! options.
 
-use sf_words::{BoundsChoice, CommandWords, InputFiles, Kinds, PlanWords, StartWords, read_words};
+use sf_options::{BoundsChoice, CommandWords, InputFiles, Kinds, PlanWords, StartWords};
+use sf_words::read_words;
 use std::alloc::{AllocError, Global};
 
 const GSRC: &str = "--format gsrc --blocks a --nets b --pl c";

@@ -9,15 +9,16 @@ pub use Rattle.clap.specs.Words.{App, Row, Rule, Shape, app_of, first_of, found_
 pub use Rattle.clap.specs.declared.builder.command.Command.TheViews.{out-Command}
 pub use Rattle.clap.specs.declared.builder.value_parser.Reading.TheVariants.{AsWritten}
 pub use Rattle.clap.specs.declared.parser.matches.ValueSource.TheVariants.{CommandLine, DefaultValue}
+pub use Rattle.sf_options.specs.Options.{CheckOptions, Command, DesignOptions, GenOptions, Input, MeasureOptions, PlanOptions, ResumeOptions, ShapeOptions, StartOptions, Text, WeightOptions, check, gen, gsrc, measure, plan, resume, shape, yal}
+pub use Rattle.sf_options.specs.Seen.{command_seen}
 pub use Rattle.sf_words.specs.App.{bare, flag_rule, rule_of_key, subcommand_for, value_rule, with_keys, with_modes}
 unfoldable pub use Rattle.sf_words.specs.App.{floorplan}
 pub use Rattle.sf_words.specs.Kept.{flag_text, full, row, row_of, rows_for, text_in_row, texts_in}
 unfoldable pub use Rattle.sf_words.specs.Kept.{texts_of}
-pub use Rattle.sf_words.specs.Meaning.{BoundsSay, CheckOptions, CheckSays, Command, DesignOptions, DesignSays, GenOptions, GenSays, HasNoMeaning, Input, InputSays, KindsSay, Means, MeasureOptions, MeasureSays, PlanOptions, PlanSays, ResumeOptions, ResumeSays, Says, ShapeOptions, ShapeSays, StartOptions, StartsSay, Values, WeightOptions, WeightsSay, bounds_text, check, gen, gsrc, measure, mode_of, plan, resume, shape, value_in, yal}
+pub use Rattle.sf_words.specs.Meaning.{BoundsSay, CheckSays, DesignSays, GenSays, HasNoMeaning, InputSays, KindsSay, Means, MeasureSays, PlanSays, ResumeSays, Says, ShapeSays, StartsSay, Values, WeightsSay, bounds_text, mode_of, value_in}
 pub use Rattle.sf_words.specs.Numbers.{IsAllowed, IsWithin, SaysIfGiven, SaysNodes, SaysNumber, nodes_range}
 unfoldable pub use Rattle.sf_words.specs.Numbers.{default_of, range}
-pub use Rattle.sf_words.specs.Seen.{command_seen, token_of}
-pub use Rattle.sf_words.specs.Table.{Text}
+pub use Rattle.sf_words.specs.Seen.{token_of}
 unfoldable pub use Rattle.sf_words.specs.Table.{is_flag, key_text, keys_of, mode_text, modes}
 pub use Rattle.sf_words.specs.Words.{AreOptions, HasForm, IsNew, IsShaped, IsValue, Token, alone, attached, before, key_of, key_word, spaced, value_of, words_of}
 pub use Rattle.sf_words.specs.declared.options.Key.{Key}

@@ -1,10 +1,10 @@
 -- A list of words has at most one meaning.
 use Rattle.std.proofs.Common.{◌≡◌, ℕ, List, Bool, Option, Some, None, MatchOption, codes, length, ◌+◌, ◌==◌, refl, sym, ap, subst, ◌∙◌, if◌then◌else◌, slice_index_or}
 use Rattle.sf_words.proofs.Common.{Mode, Key, PerUnit, Shapes, Outline, AreaWeight, WireWeight, Workers, Starts, Moves, StartSeed, Seed, Count, Text, Token, HasForm, Values, value_in, Input, gsrc, yal, InputSays, DesignOptions, DesignSays, WeightOptions, WeightsSay, StartOptions, StartsSay, BoundsSay, bounds_text, PlanOptions, PlanSays, CheckOptions, CheckSays, ResumeOptions, ResumeSays, MeasureOptions, MeasureSays, ShapeOptions, ShapeSays, KindsSay, GenOptions, GenSays, Command, plan, check, resume, measure, shape, gen, mode_of, Says, Means, IsWithin, SaysNumber, SaysIfGiven, SaysNodes, range, nodes_range}
-use Rattle.sf_words.specs.declared.command.BoundsChoice.{BoundsChoice}
-use Rattle.sf_words.specs.declared.command.BoundsChoice.TheVariants.{Standard, Strong, Pair, Fit, Both}
-use Rattle.sf_words.specs.declared.command.Kinds.{Kinds}
-use Rattle.sf_words.specs.declared.command.Kinds.TheVariants.{Hard, Mixed}
+use Rattle.sf_options.specs.declared.command.BoundsChoice.{BoundsChoice}
+use Rattle.sf_options.specs.declared.command.BoundsChoice.TheVariants.{Standard, Strong, Pair, Fit, Both}
+use Rattle.sf_options.specs.declared.command.Kinds.{Kinds}
+use Rattle.sf_options.specs.declared.command.Kinds.TheVariants.{Hard, Mixed}
 use Rattle.sf_words.specs.Outline.{OutlineSays}
 use Rattle.sf_words.proofs.Texts.{mode_text-injective}
 use Rattle.sf_words.proofs.Tokens.{options_unique, heads_same, tails_same}

@@ -1,18 +1,20 @@
 -- What the words mean: a command with its options and defaults.
-use Rattle.std.specs.Prelude.{◌≡◌, ℕ, ◌+◌, ◌⊎◌, ◌<◌, Bool, false, cond, List, [], ◌∷◌, Option, Some, None, MatchOption, is_some, codes}
+use Rattle.std.specs.Prelude.{◌≡◌, ◌+◌, ◌⊎◌, ◌<◌, false, cond, List, [], ◌∷◌, Option, Some, None, MatchOption, is_some, codes}
 use Rattle.std.specs.Str.{bytes_eq}
 use Rattle.sf_words.specs.declared.options.Mode.{Mode}
 use Rattle.sf_words.specs.declared.options.Mode.TheVariants.{Plan, Check, Resume, Measure, Shape, Gen}
 use Rattle.sf_words.specs.declared.options.Key.{Key}
 use Rattle.sf_words.specs.declared.options.Key.TheVariants.{Format, Blocks, Nets, Pl, Yal, PerUnit, Fixed, Shapes, Outline, AreaWeight, WireWeight, NetWeights, Cert, CertOut, PlOut, Rewrite, Workers, Nodes, Long, Starts, Moves, StartSeed, Improve, Begin, Bounds, Placed, Expr, Seed, Count, Kinds as KindsKey, Out}
-use Rattle.sf_words.specs.Table.{Text, key_text}
+use Rattle.sf_options.specs.Options.{Text, Input, gsrc, yal, DesignOptions, WeightOptions, StartOptions, PlanOptions, CheckOptions, ResumeOptions, MeasureOptions, ShapeOptions, GenOptions, Command, plan, check, resume, measure, shape, gen}
+use Rattle.sf_words.specs.Table.{key_text}
 use Rattle.sf_words.specs.Words.{Token, key_of, value_of, HasForm}
 use Rattle.sf_words.specs.Numbers.{SaysNumber, SaysIfGiven, SaysNodes, improve_range}
 use Rattle.sf_words.specs.Outline.{OutlineSays}
-use Rattle.sf_words.specs.declared.command.BoundsChoice.{BoundsChoice}
-use Rattle.sf_words.specs.declared.command.BoundsChoice.TheVariants.{Standard, Strong, Pair, Fit, Both}
-use Rattle.sf_words.specs.declared.command.Kinds.{Kinds}
-use Rattle.sf_words.specs.declared.command.Kinds.TheVariants.{Hard, Mixed}
+use Rattle.sf_options.specs.declared.command.BoundsChoice.{BoundsChoice}
+use Rattle.sf_options.specs.declared.command.BoundsChoice.TheVariants.{Standard, Strong, Pair, Fit, Both}
+use Rattle.sf_options.specs.declared.command.Kinds.{Kinds}
+use Rattle.sf_options.specs.declared.command.Kinds.TheVariants.{Hard, Mixed}
+use Rattle.sf_options.specs.Defaults.{default_bounds, default_kinds}
 
 -- the text that each option has, where it is given
 abbrev pub Values : Type 0
@@ -23,25 +25,10 @@ abbrev pub value_in : List Token → Values
 value_in [] key = None
 value_in (token ∷ tokens) key = cond (bytes_eq (key_text (key_of token)) (key_text key)) (Some (value_of token)) (value_in tokens key)
 
--- the files that tell a design, by the format that was chosen
-pub data Input : Type 0 where
-  gsrc : (blocks : Text) (nets pl : Option Text) → Input
-  yal : (file : Text) → Input
-
 -- an option of the other format isn't there
 abbrev pub InputSays : Values → Input → Type 0
 InputSays v (gsrc blocks nets pl) = (v Format ≡ Some (codes "gsrc")) × (v Blocks ≡ Some blocks) × (v Nets ≡ nets) × (v Pl ≡ pl) × (v Yal ≡ None)
 InputSays v (yal file) = (v Format ≡ Some (codes "yal")) × (v Yal ≡ Some file) × (v Blocks ≡ None) × (v Nets ≡ None) × (v Pl ≡ None)
-
--- The options that tell a design: its files, how many scaled units one unit of the file is, whether hard blocks keep
--- their sides, the greatest number of shapes of a block, and the sides of the outline in scaled units.
-pub record DesignOptions : Type 0 where
-  pub input : Input
-  pub per_unit : ℕ
-  pub is_fixed : Bool
-  pub shapes : ℕ
-  pub width : ℕ
-  pub height : ℕ
 
 -- what the options of a design say
 pub record DesignSays (v : Values) (o : DesignOptions) : Type 0 where
@@ -52,26 +39,12 @@ pub record DesignSays (v : Values) (o : DesignOptions) : Type 0 where
   pub shapes : SaysNumber Shapes (v Shapes) o.shapes
   pub outline : OutlineSays o.per_unit (v Outline) o.width o.height
 
--- what counts in a cost, and how much: not both are 0; and the file that tells what each net counts, if one does
-pub record WeightOptions : Type 0 where
-  pub area : ℕ
-  pub wire : ℕ
-  pub net_weights : Option Text
-
 -- what the options of the weights say
 pub record WeightsSay (v : Values) (o : WeightOptions) : Type 0 where
   pub area : SaysNumber AreaWeight (v AreaWeight) o.area
   pub wire : SaysNumber WireWeight (v WireWeight) o.wire
   pub some : 0 < o.area + o.wire
   pub net_weights : v NetWeights ≡ o.net_weights
-
--- The walks that a search may begin with: how many there are, how many trials each has, the seed of the first, and how
--- many trials make better what each finds, if that is told.
-pub record StartOptions : Type 0 where
-  pub count : ℕ
-  pub moves : ℕ
-  pub seed : ℕ
-  pub improve : Option ℕ
 
 -- what the options of the walks say; where none are asked for, and no placement is given to begin with, there is nothing to be made better
 pub record StartsSay (v : Values) (o : StartOptions) : Type 0 where
@@ -91,21 +64,8 @@ bounds_text Both = codes "both"
 
 -- what the option says, given or not
 abbrev pub BoundsSay : Option Text → BoundsChoice → Type 0
-BoundsSay None bounds = bounds ≡ Standard
+BoundsSay None bounds = bounds ≡ default_bounds
 BoundsSay (Some text) bounds = text ≡ bounds_text bounds
-
--- the options of `plan`; a long search may have a greater budget, and one may begin with the placement of a file
-pub record PlanOptions : Type 0 where
-  pub design : DesignOptions
-  pub weights : WeightOptions
-  pub cert : Text
-  pub pl_out : Option Text
-  pub workers : ℕ
-  pub nodes : Option ℕ
-  pub is_long : Bool
-  pub starts : StartOptions
-  pub begin : Option Text
-  pub bounds : BoundsChoice
 
 -- what the options of `plan` say
 pub record PlanSays (v : Values) (o : PlanOptions) : Type 0 where
@@ -120,15 +80,6 @@ pub record PlanSays (v : Values) (o : PlanOptions) : Type 0 where
   pub begin : v Begin ≡ o.begin
   pub bounds : BoundsSay (v Bounds) o.bounds
 
--- the options of `check`; the certificate of a long search may have a longer text
-pub record CheckOptions : Type 0 where
-  pub design : DesignOptions
-  pub weights : WeightOptions
-  pub cert : Text
-  pub rewrite : Option Text
-  pub is_long : Bool
-  pub bounds : BoundsChoice
-
 -- what the options of `check` say
 pub record CheckSays (v : Values) (o : CheckOptions) : Type 0 where
   pub design : DesignSays v o.design
@@ -137,18 +88,6 @@ pub record CheckSays (v : Values) (o : CheckOptions) : Type 0 where
   pub rewrite : v Rewrite ≡ o.rewrite
   pub is_long : o.is_long ≡ is_some (v Long)
   pub bounds : BoundsSay (v Bounds) o.bounds
-
--- the options of `resume`: those of a certificate that is read, and those of the search that goes on from it
-pub record ResumeOptions : Type 0 where
-  pub design : DesignOptions
-  pub weights : WeightOptions
-  pub cert : Text
-  pub cert_out : Text
-  pub pl_out : Option Text
-  pub workers : ℕ
-  pub nodes : ℕ
-  pub is_long : Bool
-  pub bounds : BoundsChoice
 
 -- what the options of `resume` say
 pub record ResumeSays (v : Values) (o : ResumeOptions) : Type 0 where
@@ -162,22 +101,11 @@ pub record ResumeSays (v : Values) (o : ResumeOptions) : Type 0 where
   pub is_long : o.is_long ≡ is_some (v Long)
   pub bounds : BoundsSay (v Bounds) o.bounds
 
--- the options of `measure`
-pub record MeasureOptions : Type 0 where
-  pub design : DesignOptions
-  pub weights : WeightOptions
-  pub placed : Text
-
 -- what the options of `measure` say
 pub record MeasureSays (v : Values) (o : MeasureOptions) : Type 0 where
   pub design : DesignSays v o.design
   pub weights : WeightsSay v o.weights
   pub placed : v Placed ≡ Some o.placed
-
--- the options of `shape`
-pub record ShapeOptions : Type 0 where
-  pub design : DesignOptions
-  pub expr : Text
 
 -- what the options of `shape` say
 pub record ShapeSays (v : Values) (o : ShapeOptions) : Type 0 where
@@ -191,16 +119,8 @@ kinds_text Mixed = codes "mixed"
 
 -- what the option says, given or not
 abbrev pub KindsSay : Option Text → Kinds → Type 0
-KindsSay None kinds = kinds ≡ Hard
+KindsSay None kinds = kinds ≡ default_kinds
 KindsSay (Some text) kinds = text ≡ kinds_text kinds
-
--- the options of `gen`
-pub record GenOptions : Type 0 where
-  pub seed : ℕ
-  pub count : ℕ
-  pub kinds : Kinds
-  pub nodes : Option ℕ
-  pub out : Text
 
 -- what the options of `gen` say
 pub record GenSays (v : Values) (o : GenOptions) : Type 0 where
@@ -209,15 +129,6 @@ pub record GenSays (v : Values) (o : GenOptions) : Type 0 where
   pub kinds : KindsSay (v KindsKey) o.kinds
   pub nodes : SaysNodes false (v Nodes) o.nodes
   pub out : v Out ≡ Some o.out
-
--- a command with its options
-pub data Command : Type 0 where
-  plan : PlanOptions → Command
-  check : CheckOptions → Command
-  resume : ResumeOptions → Command
-  measure : MeasureOptions → Command
-  shape : ShapeOptions → Command
-  gen : GenOptions → Command
 
 -- the word that stands for it
 abbrev pub mode_of : Command → Mode

@@ -3,7 +3,8 @@ use Rattle.std.specs.Prelude.{◌≡◌, ℕ, ◌≤◌, Bool, true, false, Opti
 use Rattle.sf_lex.specs.Whole.{whole_read}
 use Rattle.sf_words.specs.declared.options.Key.{Key}
 use Rattle.sf_words.specs.declared.options.Key.TheVariants.{PerUnit, Shapes, AreaWeight, WireWeight, Workers, Starts, Moves, StartSeed, Seed, Count}
-use Rattle.sf_words.specs.Table.{Text}
+use Rattle.sf_options.specs.Options.{Text}
+use Rattle.sf_options.specs.Defaults.{default_per_unit, default_shapes, default_area_weight, default_wire_weight, default_workers, default_start_count, default_moves, default_start_seed}
 
 -- the least and the greatest number that an option takes, where it takes a number by itself
 unfoldable pub range : Key → Option (ℕ × ℕ)
@@ -30,14 +31,14 @@ improve_range = (0, 1_000_000_000)
 
 -- the number that an option has where it isn't given
 unfoldable pub default_of : Key → Option ℕ
-default_of PerUnit = Some 1
-default_of Shapes = Some 16
-default_of AreaWeight = Some 1
-default_of WireWeight = Some 0
-default_of Workers = Some 1
-default_of Starts = Some 0
-default_of Moves = Some 1_000
-default_of StartSeed = Some 0
+default_of PerUnit = Some default_per_unit
+default_of Shapes = Some default_shapes
+default_of AreaWeight = Some default_area_weight
+default_of WireWeight = Some default_wire_weight
+default_of Workers = Some default_workers
+default_of Starts = Some default_start_count
+default_of Moves = Some default_moves
+default_of StartSeed = Some default_start_seed
 default_of key = None
 
 -- one to twenty digits are a number in a range

@@ -2,7 +2,7 @@
 use Rattle.std.specs.Prelude.{◌≡◌, ℕ, ◌^◌, ◌≤◌, ◌==◌, Bool, Option, Some, None, Ok}
 use Rattle.std.specs.List.{before_first, after_first}
 use Rattle.sf_lex.specs.Number.{decimal_read}
-use Rattle.sf_words.specs.Table.{Text}
+use Rattle.sf_options.specs.Options.{Text}
 
 -- the decimal times the unit is this whole number, from 1 to the greatest side
 pub record IsSide (unit : ℕ) (text : Text) (side : ℕ) : Type 0 where

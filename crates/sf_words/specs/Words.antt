@@ -2,7 +2,8 @@
 use Rattle.std.specs.Prelude.{◌≡◌, ◌≢◌, true, false, List, [], ◌∷◌, ◌++◌, Contains}
 use Rattle.sf_words.specs.declared.options.Mode.{Mode}
 use Rattle.sf_words.specs.declared.options.Key.{Key}
-use Rattle.sf_words.specs.Table.{Text, modes, mode_text, key_text, is_flag, keys_of}
+use Rattle.sf_options.specs.Options.{Text}
+use Rattle.sf_words.specs.Table.{modes, mode_text, key_text, is_flag, keys_of}
 
 -- an option as it stands in the words: `--name=value`, `--name value` or `--name`
 pub data Token : Type 0 where

@@ -4,18 +4,19 @@ ghost use Rattle.clap.specs.Words.{app_of, with_rule, new_app, kind_of, subcomma
 ghost use Rattle.clap.specs.declared.builder.command.Command.TheViews.{out-Command as fields_of};
 ghost use Rattle.sf_words.specs.Table.{mode_text, keys_of};
 ghost use Rattle.sf_words.specs.Words.{HasForm};
-ghost use Rattle.sf_words.specs.Seen.{token_of, command_seen};
+ghost use Rattle.sf_words.specs.Seen.{token_of};
+ghost use Rattle.sf_options.specs.Seen.{command_seen};
 ghost use Rattle.sf_words.specs.Meaning.{Means, HasNoMeaning};
 ghost use Rattle.sf_words.specs.App.{rule_of_key, with_keys, bare, floorplan};
 ghost use Rattle.sf_words.specs.Kept.{rows_for};
 
-use crate::command::CommandWords;
 use crate::meaning::read_command;
 use crate::options::{Key, Mode};
 use crate::parsed::Parsed;
 use crate::settings::{Form, read_form};
 use clap::error::ErrorKind;
 use clap::{Arg, ArgAction, ArgMatches, Command, Error};
+use sf_options::CommandWords;
 use std::alloc::{AllocError, Global};
 
 /// The command with one more option.

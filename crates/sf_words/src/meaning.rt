@@ -1,23 +1,23 @@
 //! What the texts of options mean: required options, formats, ranges and defaults.
 ghost use Rattle.std.specs.Prelude.{◌≡◌, List, Some, IfSome, IfNone, codes};
 ghost use Rattle.sf_words.specs.declared.options.Key.{Key};
-ghost use Rattle.sf_words.specs.Table.{Text};
+ghost use Rattle.sf_options.specs.Options.{Text, Command};
 ghost use Rattle.sf_words.specs.Kept.{texts_of};
 ghost use Rattle.sf_words.specs.Meaning.{InputSays, DesignSays, WeightsSay, StartsSay, BoundsSay, PlanSays};
 ghost use Rattle.sf_words.specs.Meaning.{CheckSays, ResumeSays, MeasureSays, ShapeSays, KindsSay, GenSays};
-ghost use Rattle.sf_words.specs.Meaning.{Command, Says, Means, mode_of, IsReading};
-ghost use Rattle.sf_words.specs.Seen.{text_of, input_seen, design_seen, weights_seen, starts_seen, plan_seen};
-ghost use Rattle.sf_words.specs.Seen.{check_seen, resume_seen, measure_seen, shape_seen, gen_seen, command_seen};
+ghost use Rattle.sf_words.specs.Meaning.{Says, Means, mode_of, IsReading};
+ghost use Rattle.sf_options.specs.Seen.{text_of, input_seen, design_seen, weights_seen, starts_seen, plan_seen};
+ghost use Rattle.sf_options.specs.Seen.{check_seen, resume_seen, measure_seen, shape_seen, gen_seen, command_seen};
 
-use crate::command::{
-    BoundsChoice, CheckWords, CommandWords, DesignWords, GenWords, InputFiles, Kinds, MeasureWords,
-    PlanWords, ResumeWords, ShapeWords, StartWords, WeightWords,
-};
 use crate::options::{Key, Mode};
 use crate::outline::read_outline;
 use crate::parsed::{Parsed, is_text};
 use crate::ranges::{nodes, number, trials};
 use sf_lex::Scale;
+use sf_options::{
+    BoundsChoice, CheckWords, CommandWords, DesignWords, GenWords, InputFiles, Kinds, MeasureWords,
+    PlanWords, ResumeWords, ShapeWords, StartWords, WeightWords,
+};
 
 /// Reads the files of a design in the format of GSRC.
 fn read_gsrc<'a>(texts: &Parsed<'_, 'a>) -> Option<InputFiles<'a>>
@@ -127,7 +127,7 @@ fn read_bounds(text: Option<&str>) -> Option<BoundsChoice>
     ensures { IsReading (BoundsSay (text_of text.entry)) (λ bounds. bounds) result }
 {
     match text {
-        None => Some(BoundsChoice::Standard),
+        None => Some(BoundsChoice::by_default()),
         Some(text) => {
             if text == "standard" {
                 Some(BoundsChoice::Standard)
@@ -225,7 +225,7 @@ fn read_kinds(text: Option<&str>) -> Option<Kinds>
     ensures { IsReading (KindsSay (text_of text.entry)) (λ kinds. kinds) result }
 {
     match text {
-        None => Some(Kinds::Hard),
+        None => Some(Kinds::by_default()),
         Some(text) => {
             if text == "hard" {
                 Some(Kinds::Hard)

@@ -1,7 +1,7 @@
 //! The outline of a chip: `WxH`, two decimals in the unit of the file.
 ghost use Rattle.std.specs.Prelude.{ℕ, ◌≤◌, IfSome, IfNone};
 ghost use Rattle.sf_words.specs.Outline.{IsSide, IsOutline, OutlineSays};
-ghost use Rattle.sf_words.specs.Seen.{text_of};
+ghost use Rattle.sf_options.specs.Seen.{text_of};
 
 use sf_lex::{Scale, read_decimal, split_at_byte};
 use sf_model::MOST_SIDE;

@@ -5,6 +5,10 @@ ghost use Rattle.sf_words.specs.Numbers.{IsAllowed, SaysNumber, SaysIfGiven, Say
 
 use crate::options::Key;
 use sf_lex::read_whole;
+use sf_options::{
+    DEFAULT_AREA_WEIGHT, DEFAULT_MOVES, DEFAULT_PER_UNIT, DEFAULT_SHAPES, DEFAULT_START_COUNT,
+    DEFAULT_START_SEED, DEFAULT_WIRE_WEIGHT, DEFAULT_WORKERS,
+};
 
 impl Key {
     /// The least and the greatest number that the option takes, where it takes a number by itself.
@@ -31,10 +35,14 @@ impl Key {
         ensures { result ≡ default_of self }
     {
         match self {
-            Key::PerUnit | Key::AreaWeight | Key::Workers => Some(1),
-            Key::Shapes => Some(16),
-            Key::Moves => Some(1000),
-            Key::WireWeight | Key::Starts | Key::StartSeed => Some(0),
+            Key::PerUnit => Some(DEFAULT_PER_UNIT),
+            Key::Shapes => Some(u64::from(DEFAULT_SHAPES)),
+            Key::AreaWeight => Some(u64::from(DEFAULT_AREA_WEIGHT)),
+            Key::WireWeight => Some(u64::from(DEFAULT_WIRE_WEIGHT)),
+            Key::Workers => Some(u64::from(DEFAULT_WORKERS)),
+            Key::Starts => Some(u64::from(DEFAULT_START_COUNT)),
+            Key::Moves => Some(u64::from(DEFAULT_MOVES)),
+            Key::StartSeed => Some(DEFAULT_START_SEED),
             _ => None,
         }
     }

@@ -3,7 +3,8 @@ ghost use Rattle.std.specs.Prelude.{◌≡◌, ◌≢◌, ◌↔◌, ◌∷◌, 
 ghost use Rattle.std.specs.Prelude.{MatchOption, IfOk, map, string_bytes};
 ghost use Rattle.sf_words.specs.declared.options.Mode.{Mode};
 ghost use Rattle.sf_words.specs.declared.options.Key.{Key};
-ghost use Rattle.sf_words.specs.Table.{Text, key_text};
+ghost use Rattle.sf_options.specs.Options.{Text};
+ghost use Rattle.sf_words.specs.Table.{key_text};
 ghost use Rattle.sf_words.specs.Words.{Token, key_of, before, words_of, IsValue, IsShaped, IsNew};
 ghost use Rattle.sf_words.specs.Words.{AreOptions, HasForm};
 ghost use Rattle.sf_words.specs.Seen.{token_of};

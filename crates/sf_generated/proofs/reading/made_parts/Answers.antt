@@ -5,7 +5,7 @@ use Rattle.sf_gsrc.specs.Join.{joined}
 use Rattle.sf_gsrc.specs.declared.output.GsrcBlocks.{GsrcBlocks}
 use Rattle.sf_gsrc.specs.declared.output.GsrcNets.{GsrcNets}
 use Rattle.sf_gsrc.specs.declared.output.GsrcPlaces.{GsrcPlaces}
-use Rattle.sf_words.specs.Meaning.{GenOptions}
+use Rattle.sf_options.specs.Options.{GenOptions}
 use Rattle.sf_generated.proofs.Common.{gen_seen, blocks_said, kinds_of, nets_said, parts_made, places_said}
 use Rattle.sf_generated.proofs.Made.{judged-is, judged-never}
 use Rattle.sf_generated.proofs.reading.made_parts.Goals as goal
