@@ -9,7 +9,7 @@ pub use Rattle.sf_node.specs.Subproblem.{Belongs, is_complete, is_solved, is_wid
 pub use Rattle.sf_node.specs.declared.task.Task.{Task}
 pub use Rattle.sf_search_core.specs.Conserved.{IsConserved, IsDecided, branched, children}
 pub use Rattle.sf_search_core.specs.Core.{IsCoreState, held_tasks, undecided}
-pub use Rattle.sf_search_core.specs.Events.{Answers, AreBounds, AreChildren, CanCome, IsBranching, applied, close, held_by, held_in, kind_of, may_branch, offer, replace, take, tasks}
+pub use Rattle.sf_search_core.specs.Events.{AreBounds, CanCome, applied, close, held_by, held_in, kind_of, may_branch, offer, replace, take, tasks}
 pub use Rattle.sf_search_core.specs.Least.{least}
 pub use Rattle.sf_search_core.specs.State.{State}
 pub use Rattle.sf_search_core.specs.declared.entry.Entry.{Entry}
@@ -18,9 +18,9 @@ pub use Rattle.sf_search_core.specs.declared.event.Event.{Event}
 pub use Rattle.sf_search_core.specs.declared.event.Event.TheVariants.{Close, Offer, Replace, Take}
 pub use Rattle.sf_search_core.specs.declared.event.How.{How}
 pub use Rattle.sf_search_core.specs.declared.refusal.Refusal.{Refusal}
-pub use Rattle.std.proofs.lemmas.Bool.{and_parts, cases_lt, cond-false, cond-true, eqb-true, lt-ltb, ltb-true, true≢false}
-pub use Rattle.std.proofs.lemmas.List.{length-map, map-append, reverse-append}
+pub use Rattle.std.proofs.lemmas.Bool.{and_parts, cases_lt, cond-false, eqb-true, lt-ltb, ltb-true, true≢false}
+pub use Rattle.std.proofs.lemmas.List.{map-append}
 pub use Rattle.std.proofs.lemmas.List.Elements.{All-append, All-from_recursion, All-head, All-nil, All-push, All-tail, All-weaker, recursion_from_All}
 pub use Rattle.std.proofs.lemmas.List.Sorted.{All-permutation, Contains-permutation, IsPermutation-append_comm, IsPermutation-append_left, IsPermutation-append_right, IsPermutation-cons, IsPermutation-map, IsPermutation-middle, IsPermutation-refl, IsPermutation-remove, IsPermutation-reverse, IsPermutation-sym, IsPermutation-trans}
 pub use Rattle.std.specs.List.{AllByRecursion, filter_map, flat_map}
-pub use Rattle.std.specs.Prelude.{Any, IfOk, IsTrue, nat_lt, remove, slice_get, slice_set, zip}
+pub use Rattle.std.specs.Prelude.{Any, IfOk, IsTrue, nat_lt, remove, slice_get, slice_set}

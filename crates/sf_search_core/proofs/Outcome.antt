@@ -295,7 +295,3 @@ events-outcome design bound workers events sound exact can =
 -- whatever events came, the state is a core state
 pub events-core : (design : Design) (bound : Parts → ℕ) (workers : ℕ) (events : List Event) → CanAllCome design bound (opening design bound workers) events → IsCoreState design bound (after_events design (opening design bound workers) events)
 events-core design bound workers events can = after_events-kept design bound (opening design bound workers) events (opening-core design bound workers) can
-
--- a machine at its start is in a core state
-pub opened-core : (design : Design) (bound : Parts → ℕ) (workers : ℕ) (state : State) → state ≡ opening design bound workers → IsCoreState design bound state
-opened-core design bound workers state e = subst (IsCoreState design bound) (sym e) (opening-core design bound workers)

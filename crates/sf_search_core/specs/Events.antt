@@ -1,5 +1,5 @@
 -- What each event does to the state, or why it is refused.
-use Rattle.std.specs.Prelude.{◌≡◌, ◌<◌, ◌≤◌, ⊤, IsTrue, ℕ, List, [], ◌∷◌, ◌++◌, length, map, min, reverse, remove, Bool, ◌&&◌, not, ◌==◌, nat_lt, if◌then◌else◌, Option, Some, None, Result, Ok, Err, IfOk, slice_get, slice_set}
+use Rattle.std.specs.Prelude.{◌≡◌, ◌<◌, ⊤, ℕ, List, [], ◌∷◌, ◌++◌, length, map, min, reverse, remove, Bool, ◌&&◌, not, ◌==◌, nat_lt, if◌then◌else◌, Option, Some, None, Result, Ok, Err, IfOk, slice_get, slice_set}
 use Rattle.sf_model.specs.declared.design.Design.{Design}
 use Rattle.sf_node.specs.declared.task.Task.{Task}
 use Rattle.sf_node.specs.Parts.{Parts}
@@ -12,7 +12,7 @@ use Rattle.sf_search_core.specs.declared.event.How.TheVariants as how
 use Rattle.sf_search_core.specs.declared.event.Event.{Event}
 use Rattle.sf_search_core.specs.declared.event.Event.TheVariants.{Take, Replace, Close, Offer}
 use Rattle.sf_search_core.specs.declared.refusal.Refusal.{Refusal}
-use Rattle.sf_search_core.specs.declared.refusal.Refusal.TheVariants.{NoPlace, NotHeld, Stale, NotBelow, NotAtLeast, NoStep, NotCost, NoMemory}
+use Rattle.sf_search_core.specs.declared.refusal.Refusal.TheVariants.{NoPlace, NotHeld, Stale, NotBelow, NotAtLeast, NoStep, NotCost}
 use Rattle.sf_search_core.specs.State.{State}
 use Rattle.sf_search_core.specs.Conserved.{branched}
 
@@ -60,13 +60,6 @@ replace state worker way value costs (Some task) =
       entries = state.entries ++ record { node = task.node; kind = kind_of way; value = value } ∷ [];
     })))
 
--- the worker holds this task, and it may be replaced: the value read is not below the word, the bound is below the value, and it may branch so
-pub record IsBranching (state : State) (worker : ℕ) (way : How) (value : ℕ) (task : Task) : Type 0 where
-  pub held : held_by state worker ≡ Some task
-  pub fresh : state.word ≤ value
-  pub below : task.bound < value
-  pub may : IsTrue (may_branch way task.node)
-
 -- the worker's task becomes a closed entry
 abbrev pub close : State → ℕ → ℕ → Option Task → Result State Refusal
 close state worker value None = Err NotHeld
@@ -101,20 +94,9 @@ abbrev pub AreBounds : (Parts → ℕ) → How → List ℕ → Option Task → 
 AreBounds bound way costs None = ⊤
 AreBounds bound way costs (Some task) = costs ≡ map bound (branched (kind_of way) task.node)
 
--- where a worker's task may branch so, the subproblems of these tasks are its children
-abbrev pub AreChildren : How → List Task → Option Task → Type 0
-AreChildren way children None = ⊤
-AreChildren way children (Some task) = IsTrue (may_branch way task.node) → map (λ child. child.node) children ≡ branched (kind_of way) task.node
-
 -- what a caller of an event keeps: the worker is one of the machine's, and where a Replace is not refused, its bounds are the values of the children
 abbrev pub CanCome : (Parts → ℕ) → State → Event → Type 0
 CanCome bound state (Take worker place) = worker < length state.held
 CanCome bound state (Replace worker way value costs) = (worker < length state.held) × IfOk (replace state worker way value costs (held_by state worker)) (λ next. AreBounds bound way costs (held_by state worker))
 CanCome bound state (Close worker value) = worker < length state.held
 CanCome bound state (Offer worker cost) = worker < length state.held
-
--- a call answers what the event means, or want of memory with the state unchanged
-abbrev pub Answers : Result State Refusal → State → Result Unit Refusal → State → Type 0
-Answers meant old (Ok done) new = meant ≡ Ok new
-Answers meant old (Err NoMemory) new = new ≡ old
-Answers meant old (Err why) new = (meant ≡ Err why) × (new ≡ old)

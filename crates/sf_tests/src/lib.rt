@@ -48,9 +48,9 @@ mod place;
 #[cfg(test)]
 mod polish;
 #[cfg(test)]
-mod rounds;
+mod pool;
 #[cfg(test)]
-mod search_core;
+mod rounds;
 #[cfg(test)]
 mod soft_shapes;
 #[cfg(test)]

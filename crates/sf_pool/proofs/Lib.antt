@@ -1,0 +1,4 @@
+mod Common
+pub mod Core
+mod Replaced
+mod Zipped
