@@ -13,7 +13,8 @@ import sys
 TOP = os.path.dirname(os.path.dirname(os.path.dirname(os.path.abspath(__file__))))
 CRATES = os.path.join(TOP, "crates")
 PROGRAMS = ("floorplan", "floorbatch")
-TESTS = {"runs/": "sf_runs/src/tests/", "": "sf_tests/src/"}
+RUNS = "sf_runs/src/tests"
+TESTS = ("sf_input_tests/src", "sf_model_tests/src", "sf_search_tests/src")
 
 
 def files(folder, ending):
@@ -96,15 +97,23 @@ def unfound_clauses(cell, heads, known):
         yield "(one)"
 
 
+def file_of(name):
+    """Where the tests of this name stand: a file of whole runs, or the one of its name in a crate of tests."""
+    run, _, of_run = name.rpartition("/")
+    if run:
+        return os.path.join(CRATES, RUNS, of_run + ".rt")
+    places = [os.path.join(CRATES, folder, name + ".rt") for folder in TESTS]
+    return next((place for place in places if os.path.exists(place)), name + ".rt")
+
+
 def tests_in(cell):
     """The names of tests and scripts in the last column, each with the file where it should stand."""
     for part in cell.split("; "):
         named = re.match(r"(runs/\w+|\w+): (.*)", part)
         if named:
-            kind = next(key for key in TESTS if named.group(1).startswith(key))
-            file = TESTS[kind] + named.group(1)[len(kind):] + ".rt"
+            file = file_of(named.group(1))
             for name in named.group(2).split(", "):
-                yield os.path.join(CRATES, file), name
+                yield file, name
         elif part.endswith(".py"):
             yield os.path.join(TOP, "bench", "trials", part), None
 
