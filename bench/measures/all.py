@@ -29,6 +29,7 @@ SCRIPTS = {
     "workers": 1,
     "reach": 1,
     "hostile": 1,
+    "anew --wanted": 0,
 }
 
 if __name__ == "__main__":
