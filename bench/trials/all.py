@@ -15,6 +15,7 @@ from common import run_all
 # each with the number of programs that it is given
 SCRIPTS = {
     "claims": 0,
+    "map": 0,
     "start": 0,
     "progress": 1,
     "losses": 1,
