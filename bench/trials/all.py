@@ -24,6 +24,7 @@ SCRIPTS = {
     "starts": 1,
     "begin": 1,
     "outlines": 1,
+    "draw": 1,
     "batch": 2,
     "strong": 1,
     "faults": 1,
