@@ -13,8 +13,8 @@ only with -o. The order of the blocks is that of --blocks or --yal, and else tha
     ./floorplan plan $FIVE --cert five.cert --pl-out five.placed | python3 tools/draw.py five.placed -o five.svg
 
 It draws what the texts say, legal or not: `floorplan measure` judges. Lengths are in the unit of the files; what a report says is
-in scaled units, as it stands there. A text that can't be drawn gives one line on standard error, status 1 and no file; invalid
-arguments status 2.
+in scaled units, as it stands there. Dead and white space are reckoned from the sizes in PL, where soft blocks are rounded up. A text
+that can't be drawn gives one line on standard error, status 1 and no file; invalid arguments status 2.
 """
 import argparse
 import os
